@@ -6,3 +6,4 @@ pub mod Rules
 pub mod Reading
 pub mod Case
 pub mod Texts
+pub mod Summary
