@@ -7,3 +7,8 @@ pub mod Reading
 pub mod Case
 pub mod Texts
 pub mod Summary
+pub mod Table
+pub mod Outcome
+pub mod Number
+pub mod Items
+pub mod Walk
