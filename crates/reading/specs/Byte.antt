@@ -110,6 +110,6 @@ abbrev pub comment : ℕ → ℕ → List ℕ → Option ℕ
 comment d p [] = none
 comment d p (b ∷ t) =
     elim (is 42 p && is 47 b) [
-      true ↦ elim d [ zero ↦ some 1 | suc e ↦ plus 1 (comment e 0 t) ]
-    | false ↦ elim (is 47 p && is 42 b) [ true ↦ plus 1 (comment (suc d) 0 t) | false ↦ plus 1 (comment d b t) ]
+      | true ↦ elim d [ zero ↦ some 1 | suc e ↦ plus 1 (comment e 0 t) ]
+      | false ↦ elim (is 47 p && is 42 b) [ true ↦ plus 1 (comment (suc d) 0 t) | false ↦ plus 1 (comment d b t) ]
     ]

@@ -10,7 +10,6 @@ use Rattle.reading.specs.Kind.{charᵏ, binaryᵏ, importᵏ}
 
 infixr 25 _or_
 infixr 30 _▸_
-
 -- What a reading yields ----------------------------------------------------
 
 -- trivia is tlow to low, the body low to high; size counts the rows of the subtree
@@ -104,9 +103,9 @@ pub data Parser : Type 0 where
 -- report_error: an error that meets the flag clears it and is lost
 abbrev pub reported : Error → State → State
 reported e w = elim (w .swallow) [
-      true ↦ record { scope = w .scope; swallow = false; errors = w .errors; requests = w .requests; peak = w .peak }
-    | false ↦ record { scope = w .scope; swallow = false; errors = w .errors ++ (e ∷ []); requests = w .requests; peak = w .peak }
-    ]
+  | true ↦ record { scope = w .scope; swallow = false; errors = w .errors; requests = w .requests; peak = w .peak }
+  | false ↦ record { scope = w .scope; swallow = false; errors = w .errors ++ (e ∷ []); requests = w .requests; peak = w .peak }
+]
 
 -- ignore_next_error
 abbrev pub swallowing : State → State

@@ -6,7 +6,6 @@ use Rattle.reading.specs.Byte.{bytes}
 use Rattle.reading.specs.Grammar.{Leaf, tag-no-case}
 
 infix 70 _↦ⁿ_
-
 -- a word in any letter case, and the detail that it gives
 abbrev pub _↦ⁿ_ : String → ℕ → Leaf × ℕ
 s ↦ⁿ d = (tag-no-case (bytes s), d)

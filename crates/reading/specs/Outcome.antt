@@ -62,15 +62,21 @@ left n t = cond (leb n 4) t (filled [] t)
 abbrev pub settled : Call → Test → Outcome
 settled c (some (n, g)) =
     record {
-      answer = refused n g; scope = c .scope; swallow = c .swallow;
-      rows = left n (c .rows); errors = left n (c .errors); requests = left n (c .requests)
+      answer = refused n g;
+      scope = c .scope;
+      swallow = c .swallow;
+      rows = left n (c .rows);
+      errors = left n (c .errors);
+      requests = left n (c .requests);
     }
 settled c none =
     record {
-      answer = answered (needs c); scope = state-of (reading c) .scope; swallow = state-of (reading c) .swallow;
+      answer = answered (needs c);
+      scope = state-of (reading c) .scope;
+      swallow = state-of (reading c) .swallow;
       rows = filled (row-words (rows-of (reading c))) (c .rows);
       errors = filled (error-words (state-of (reading c) .errors)) (c .errors);
-      requests = filled (request-words (state-of (reading c) .requests)) (c .requests)
+      requests = filled (request-words (state-of (reading c) .requests)) (c .requests);
     }
 
 unfoldable pub outcome : Call → Outcome

@@ -11,7 +11,6 @@ use Rattle.reading.specs.Grammar.{Row, Rows, Leaf, one, run0, run1, tag,
 use Rattle.reading.specs.Mnemonic.{_↦ⁿ_, mnemonics, implied-mnemonics}
 
 infix 70 _↦ᵗ_
-
 abbrev pub opt : Parser → Parser
 opt m = m or empty
 
