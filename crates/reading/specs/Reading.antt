@@ -15,7 +15,7 @@ rule-of expr = expression
 rule-of config = config-map
 rule-of stmt = statement
 
--- the rules; each is named behind a bracket only, so as many calls inside one another as there are bytes are enough (proofs/Fuel)
+-- the rules; each is named behind a bracket only, so as many calls inside one another as there are bytes are enough (proofs/Written)
 abbrev pub reads : ℕ → Rule → Act Rows
 reads zero k = λ l p w. err w
 reads (suc n) k = parse (reads n) (rule-of k)
