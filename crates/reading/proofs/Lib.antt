@@ -5,3 +5,7 @@ pub mod Tests
 pub mod Fuel
 pub mod Quiet
 pub mod Written
+pub mod Cost
+pub mod Bounds
+pub mod Trees
+pub mod Summaries
