@@ -1,10 +1,9 @@
 -- The texts of document 01, and single outcomes of the public calls, computed.
-use mathlib.Core.Bool.{Bool, true, false}
-use mathlib.Core.List.{List, [], _∷_, _++_}
+use mathlib.Core.Bool.{true, false}
+use mathlib.Core.List.{List, [], _∷_}
 use mathlib.Core.Path.{_≡_, refl}
 use Prim.Native.Nat.{ℕ, zero, suc}
 use Prim.Native.String.{String}
-use lib.ListN.{length}
 use Rattle.reading.specs.Byte.{bytes}
 use Rattle.reading.specs.Rules.{all-rules}
 use Rattle.reading.specs.Reading.{written}
@@ -13,7 +12,7 @@ use Rattle.reading.specs.Texts.{texts}
 use Rattle.reading.specs.Table.{Answer, answered, refused, zeros}
 use Rattle.reading.specs.Outcome.{Call, Counts, Outcome, outcome, refusal, needs}
 use Rattle.reading.specs.Number.{hexadecimal, decimal, binary, number-value}
-use Rattle.reading.specs.Items.{Listed, kinds, item, items, item-refusal, trivia-items}
+use Rattle.reading.specs.Items.{kinds, item, items, item-refusal, trivia-items}
 use Rattle.reading.specs.Walk.{walk}
 
 -- the texts of document 01 read as it says

@@ -5,15 +5,16 @@ use mathlib.Core.Path.{_≡_, refl, ap, _∙_}
 use mathlib.Core.Bool.{Bool, true, false, _&&_}
 use mathlib.Core.List.{List, [], _∷_, _++_}
 use mathlib.Core.Option.{Option, none, some}
-use Prim.Native.Nat.{ℕ, zero, suc, _+_, _*_, _≤_, zero-le, suc-le-suc}
+use Prim.Native.Nat.{ℕ, zero, suc, _+_, _*_, _≤_}
 use native.Mathlib.Omega.{arith}
 use lib.Dec.{T, leb, leb→le, nleb→lt, not-T, ltb, lit≤}
 use lib.ListN.{length, length-append}
-use Rattle.reading.specs.Byte.{is, begins, begins-no-case, run, at-least-one, given, comment}
+use Rattle.reading.specs.Byte.{is}
 use Rattle.reading.specs.Kind.{charᵏ, binaryᵏ, importᵏ}
-use Rattle.reading.specs.Grammar.{Rows, Row, State, Input, Reply, ok, err, Leaf, one, run0, run1, tag, tag-no-case, comment-rest, Rule, expr, config, stmt, Parser, empty, _▸_, _or_, never, many0, leaf, rule, unterminated, node, pick, over, scoped, import, argument, chain, bracket, braced, complain, expect, raised, root, joined, under, first-low, placed, binary, folded, Act, then, else, with, turned, gate, last-round, next-round, rounds, one-of, taken, take, always, located, char-at, picked, pick-word, closed, parse}
+use Rattle.reading.specs.Grammar.{Rows, Row, State, Input, Reply, ok, err, Leaf, Rule, expr, config, stmt, Parser, empty, _▸_, _or_, never, many0, leaf, rule, unterminated, node, pick, over, scoped, import, argument, chain, bracket, braced, complain, expect, raised, root, joined, under, first-low, placed, binary, folded, Act, then, else, with, turned, gate, last-round, next-round, rounds, one-of, taken, take, always, located, char-at, picked, pick-word, closed, parse}
 use Rattle.reading.specs.Rules.{all-rules, source-file}
 use Rattle.reading.specs.Reading.{rule-of, reads, written, start}
+use Rattle.reading.proofs.Leaf.{least, all-one, Least, one-least, taken-least}
 use Rattle.reading.proofs.Bool.{and-left, and-right}
 
 -- Costs --------------------------------------------------------------------
@@ -40,20 +41,6 @@ chosen false a b = b
 
 abbrev pub worse : Cost → Cost → Cost
 worse a b = chosen (leb (a .gain + b .debt) (b .gain + a .debt)) a b
-
--- how many bytes a leaf takes at least
-abbrev pub least : Leaf → ℕ
-least (one f) = 1
-least (run0 f) = 0
-least (run1 f) = 1
-least (tag w) = length w
-least (tag-no-case w) = length w
-least comment-rest = 0
-
--- each word takes a byte at least
-abbrev pub all-one : List (Leaf × ℕ) → Bool
-all-one [] = true
-all-one (x ∷ xs) = leb 1 (least (x .0)) && all-one xs
 
 abbrev pub cost : Parser → Cost
 cost empty = price 0 0
@@ -176,7 +163,7 @@ chosen-law : (x : Bool) (a b : Cost) → (T x → a .gain + b .debt ≤ b .gain 
 chosen-law true a b h i = (omega arith, h tt)
 chosen-law false a b h i = (i (λ t. t), omega arith)
 
-worse-both : (a b : Cost)
+pub worse-both : (a b : Cost)
     → (worse a b .gain + a .debt ≤ a .gain + worse a b .debt) × (worse a b .gain + b .debt ≤ b .gain + worse a b .debt)
 worse-both a b =
     let x = a .gain + b .debt in
@@ -184,34 +171,6 @@ worse-both a b =
     chosen-law (leb x y) a b (leb→le x y) λ h. omega (arith, nleb→lt x y (not-T (leb x y) h))
 
 -- Leaves -------------------------------------------------------------------
-
-abbrev Least : ℕ → Option ℕ → Type 0
-Least k none = Unit {0}
-Least k (some n) = k ≤ n
-
-given-least : (b : Bool) (n : ℕ) → Least n (given b n)
-given-least true n = omega arith
-given-least false n = tt
-
-one-least : (f : ℕ → Bool) (t : List ℕ) → Least 1 (one-of f t)
-one-least f [] = tt
-one-least f (b ∷ t) = given-least (f b) 1
-
-at-least-one-least : (n : ℕ) → Least 1 (at-least-one n)
-at-least-one-least zero = tt
-at-least-one-least (suc n) = suc-le-suc zero-le
-
-any-least : (o : Option ℕ) → Least 0 o
-any-least none = tt
-any-least (some n) = zero-le
-
-taken-least : (f : Leaf) (t : List ℕ) → Least (least f) (taken f t)
-taken-least (one f) t = one-least f t
-taken-least (run0 f) t = zero-le
-taken-least (run1 f) t = at-least-one-least (run f t)
-taken-least (tag w) t = given-least (begins w t) (length w)
-taken-least (tag-no-case w) t = given-least (begins-no-case w t) (length w)
-taken-least comment-rest t = any-least (comment 0 0 t)
 
 take-slim : (k : ℕ) (o : Option ℕ) (p : Input) (w : State) → Least k o → Slim length (price (4 * k) 0) p (take o p w)
 take-slim k none p w h = slim-err
@@ -307,7 +266,7 @@ closed-slim o h = else-slim (cheaper (lit≤ tt) (char-slim 125 h)) λ v. slim-o
 all-three : (a b c : Bool) → T (a && (b && c)) → T a × T b × T c
 all-three a b c t = let u = and-right a (b && c) t in (and-left a (b && c) t, and-left b c u, and-right b c u)
 
-all-four : (a b c d : Bool) → T ((a && b) && (c && d)) → T a × T b × T c × T d
+pub all-four : (a b c d : Bool) → T ((a && b) && (c && d)) → T a × T b × T c × T d
 all-four a b c d t =
     let u = and-left (a && b) (c && d) t in
     let v = and-right (a && b) (c && d) t in

@@ -1,5 +1,6 @@
 pub mod Claims
 pub mod Bool
+pub mod Leaf
 pub mod Ahead
 pub mod Tests
 pub mod Fuel
@@ -9,3 +10,6 @@ pub mod Cost
 pub mod Bounds
 pub mod Trees
 pub mod Summaries
+pub mod Moves
+pub mod Answers
+pub mod Meters

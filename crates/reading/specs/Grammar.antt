@@ -2,7 +2,7 @@
 use mathlib.Core.Bool.{Bool, true, false}
 use mathlib.Core.List.{List, [], _∷_, _++_}
 use mathlib.Core.Option.{Option, none, some}
-use Prim.Native.Nat.{ℕ, zero, suc, _+_, max}
+use Prim.Native.Nat.{ℕ, suc, _+_, max}
 use lib.Dec.{ltb, eqb}
 use lib.ListN.{length, drop}
 use Rattle.reading.specs.Byte.{is, begins, begins-no-case, given, run, at-least-one, comment}

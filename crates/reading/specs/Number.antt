@@ -1,7 +1,7 @@
 -- Number::value: the value of a number's text in the base of its type.
 use mathlib.Core.Bool.{Bool, true, false, _&&_, cond, not}
 use mathlib.Core.List.{List, [], _∷_}
-use Prim.Native.Nat.{ℕ, zero, suc, _+_, _*_, _-_}
+use Prim.Native.Nat.{ℕ, _+_, _*_, _-_}
 use lib.Dec.{ltb, eqb}
 use Rattle.reading.specs.Byte.{bytes, digit, hex-digit, binary-digit, lower}
 use Rattle.reading.specs.Table.{Answer, answered, refused}

@@ -1,12 +1,12 @@
 -- The call that reads a text: its refusals in their order, and what is left in the tables. The limits occur in the tests of refusals 4 to 8
 -- only; the reading and the needs do not know them.
-use mathlib.Core.Bool.{Bool, true, false, cond}
+use mathlib.Core.Bool.{Bool, cond}
 use mathlib.Core.List.{List, [], _∷_}
-use mathlib.Core.Option.{Option, none, some}
+use mathlib.Core.Option.{none, some}
 use Prim.Native.Nat.{ℕ}
 use lib.Dec.{leb, ltb}
 use lib.ListN.{length}
-use Rattle.reading.specs.Grammar.{Rows, State, Reply}
+use Rattle.reading.specs.Grammar.{Rows, Reply}
 use Rattle.reading.specs.Reading.{written, rows-of, state-of}
 use Rattle.reading.specs.Table.{Answer, answered, refused, Test, when, found, first, first-high, row-width, error-width, request-width, row-words, error-words, request-words, room, filled}
 

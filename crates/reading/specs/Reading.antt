@@ -1,5 +1,5 @@
 -- The written reading of a text from a starting state: what parse_with_instance gives.
-use mathlib.Core.Bool.{Bool, true, false}
+use mathlib.Core.Bool.{Bool}
 use mathlib.Core.List.{List, []}
 use Prim.Native.Nat.{ℕ, zero, suc}
 use lib.ListN.{length}

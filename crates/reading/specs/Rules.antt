@@ -1,7 +1,7 @@
 -- The parser of mos-core, function by function: each rule has the name of the Rust function that it follows (`-` for `_`; a prime where the
 -- name is taken here), its alternatives in the Rust's order. mod.rs, and config_map.rs where it says so.
 use mathlib.Core.Bool.{Bool, true, false, not}
-use mathlib.Core.List.{List, [], _∷_}
+use mathlib.Core.List.{[], _∷_}
 use Prim.Native.Nat.{ℕ, _+_}
 use Prim.Native.Char.{Char, code}
 use Prim.Native.String.{String}

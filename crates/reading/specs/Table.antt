@@ -1,8 +1,8 @@
 -- What the public calls answer, and the lent tables' words: document 01, "A reading and its room".
-use mathlib.Core.Bool.{Bool, true, false, cond}
+use mathlib.Core.Bool.{Bool, true, false}
 use mathlib.Core.List.{List, [], _∷_, _++_}
 use mathlib.Core.Option.{Option, none, some}
-use Prim.Native.Nat.{ℕ, zero, suc, _+_, _*_, _-_, _/_}
+use Prim.Native.Nat.{ℕ, zero, suc, _+_, _-_, _/_}
 use lib.Dec.{leb}
 use lib.ListN.{length}
 use Rattle.reading.specs.Grammar.{Row, Error, Request}

@@ -2,7 +2,7 @@
 use mathlib.Core.Bool.{true, false}
 use mathlib.Core.List.{List, [], _∷_}
 use Rattle.reading.specs.Byte.{bytes}
-use Rattle.reading.specs.Case.{Case, case, r, e, q, w}
+use Rattle.reading.specs.Case.{Case, case, r, e, w}
 
 abbrev pub texts : List Case
 texts =

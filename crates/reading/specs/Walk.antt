@@ -1,5 +1,5 @@
 -- Walking a row table: from a row count to the last subtree's root, and the count before that subtree. Nothing is written.
-use mathlib.Core.Bool.{Bool, true, false, _||_, cond}
+use mathlib.Core.Bool.{_||_, cond}
 use mathlib.Core.List.{List}
 use Prim.Native.Nat.{ℕ, _+_, _*_, _-_}
 use lib.Dec.{ltb, eqb}
