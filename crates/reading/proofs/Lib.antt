@@ -13,3 +13,6 @@ pub mod Summaries
 pub mod Moves
 pub mod Answers
 pub mod Meters
+pub mod First
+pub mod Starts
+pub mod Settled

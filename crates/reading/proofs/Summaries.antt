@@ -142,15 +142,15 @@ binary-rooted a x q h =
     subst (λ z. Rooted (under binaryᵏ 0 (root a .low) (root a .low) z (a ++ x)) q) (sym (h .high)) (under-rooted binaryᵏ 0 (root a .low) (root a .low) (a ++ x) q)
 
 -- each combinator, on summaries
-anything : {A : Type 0} (s : Summary A) → Yields (λ a q. Unit {0}) s
+pub anything : {A : Type 0} (s : Summary A) → Yields (λ a q. Unit {0}) s
 anything (fits a q b k) = record { holds = tt }
 anything (fails b k) = record { holds = tt }
 
-more-yields : {A : Type 0} {P : A → Input → Type 0} (b : Bool) (k : ℕ) {s : Summary A} → Yields P s → Yields P (more b k s)
+pub more-yields : {A : Type 0} {P : A → Input → Type 0} (b : Bool) (k : ℕ) {s : Summary A} → Yields P s → Yields P (more b k s)
 more-yields b k {s = fits a q c j} h = record { holds = h .holds }
 more-yields b k {s = fails c j} h = record { holds = tt }
 
-then-yields : {A B : Type 0} {P : A → Input → Type 0} {Q : B → Input → Type 0} {s : Summary A} {f : A → Input → Summary B}
+pub then-yields : {A B : Type 0} {P : A → Input → Type 0} {Q : B → Input → Type 0} {s : Summary A} {f : A → Input → Summary B}
     → Yields P s → ((a : A) (q : Input) → P a q → Yields Q (f a q)) → Yields Q (thenˢ s f)
 then-yields {s = fits a q b k} h e = more-yields b k (e a q (h .holds))
 then-yields {s = fails b k} h e = record { holds = tt }
@@ -160,7 +160,7 @@ else-yields : {A : Type 0} {P : A → Input → Type 0} {s : Summary A} {f : Uni
 else-yields {s = fits a q b k} h e = h
 else-yields {s = fails b k} h e = more-yields b k (e tt)
 
-with-yields : {A B : Type 0} {P : A → Input → Type 0} {Q : B → Input → Type 0} (f : A → B) {s : Summary A}
+pub with-yields : {A B : Type 0} {P : A → Input → Type 0} {Q : B → Input → Type 0} (f : A → B) {s : Summary A}
     → Yields P s → ((a : A) (q : Input) → P a q → Q (f a) q) → Yields Q (withˢ f s)
 with-yields f {s = fits a q b k} h e = record { holds = e a q (h .holds) }
 with-yields f {s = fails b k} h e = record { holds = tt }

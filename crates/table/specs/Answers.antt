@@ -1,5 +1,4 @@
 -- What a walk's answer says in document 01's numbers.
-use Prim.Native.Nat.{ℕ}
 use Rattle.reading.specs.Table.{Answer, answered, refused}
 use Rattle.reading.specs.Walk.{Subtree}
 use Rattle.table.specs.declared.Walked.{Walked}
