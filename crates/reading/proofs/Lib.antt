@@ -13,6 +13,7 @@ pub mod Summaries
 pub mod Moves
 pub mod Answers
 pub mod Meters
+pub mod Verdict
 pub mod First
 pub mod Starts
 pub mod Settled

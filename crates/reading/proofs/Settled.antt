@@ -1,5 +1,6 @@
 -- Trivia is read once: where a run of trivia ends no item of it fits, since each item reads a byte and so the loop goes on until one fails. So
--- trivia read again reads nothing, without an open comment; with line ends too; and behind trivia with line ends, trivia without them.
+-- trivia read again reads nothing, without an open comment; with line ends too; and behind trivia with line ends, trivia without them. And a `/`
+-- that trivia leaves begins no comment.
 use mathlib.Core.Path.{_≡_, refl, ap, _∙_, sym, subst}
 use mathlib.Core.Bool.{Bool, true, false, _||_, not}
 use mathlib.Core.List.{List, [], _∷_, _++_}
@@ -9,12 +10,14 @@ use Prim.Native.String.{String}
 use native.Mathlib.Omega.{arith}
 use native.Mathlib.Nat.{not-suc-le-zero}
 use lib.Dec.{T, ltb, lt→ltb}
-use lib.ListN.{length, length-drop}
+use lib.ListN.{length, drop, length-drop}
 use Rattle.reading.specs.Byte.{bytes, blank, line-end, is, begins, run, at-least-one, given}
-use Rattle.reading.specs.Grammar.{Rows, Input, Rule, Leaf, one, run1, tag, comment-rest, Parser, empty, _▸_, _or_, many0, leaf, unterminated, joined, taken}
+use Rattle.reading.specs.Grammar.{Rows, Input, Rule, Leaf, one, run1, tag, comment-rest, Parser, empty, _▸_, _or_, many0, leaf, unterminated, joined, behind, taken}
 use Rattle.reading.specs.Rules.{opt, byte, exactly, cpp-comment, c-comment, trivia-impl, new-line, trivia, multiline-trivia}
 use Rattle.reading.specs.Summary.{Summary, fits, fails, more, thenˢ, elseˢ, withˢ, gateˢ, last-roundˢ, next-roundˢ, Scan, roundsˢ, takeˢ, scan}
 use Rattle.reading.proofs.Ahead.{Fits, taken-fits}
+use Rattle.reading.proofs.Verdict.{first, Ends, Bare}
+use Rattle.reading.proofs.First.{more-none}
 
 -- Items --------------------------------------------------------------------
 
@@ -73,6 +76,10 @@ take-reads : (c : Bool) (n : ℕ) (o : Option ℕ) (p : Input) → Fits o (lengt
 take-reads c n none p h i = (refl, refl)
 take-reads c n (some k) p h i = (refl, refl, omega arith, omega (arith, length-drop k (p .left)), tt)
 
+-- what stands behind `//`
+abbrev to-line-end : Leaf
+to-line-end = run1 λ b. not (line-end b)
+
 -- parsers that make up trivia
 module _ (τ : Rule → Scan Rows) (l : ℕ) where
   abbrev Item : Bool → ℕ → Parser → Type 0
@@ -96,6 +103,9 @@ module _ (τ : Rule → Scan Rows) (l : ℕ) where
   mark-item : (s : String) → 1 ≤ length (bytes s) → Item false 1 (exactly s)
   mark-item s h = leaf-item false 1 (tag (bytes s)) λ t. least-given (begins (bytes s) t) 1 (length (bytes s)) h
 
+  blank-item : Item true 1 (leaf (run1 blank))
+  blank-item = leaf-item true 1 (run1 blank) λ t. least-one (run blank t)
+
   c-item : Item true 1 c-comment
   unfolding c-comment
   c-item =
@@ -105,14 +115,12 @@ module _ (τ : Rule → Scan Rows) (l : ℕ) where
   cpp-item : Item true 1 cpp-comment
   unfolding cpp-comment
   cpp-item =
-      let rest = run1 λ b. not (line-end b) in
-      pair-item true 1 0 (exactly "//") (leaf rest) (mark-item "//" (suc-le-suc zero-le)) (leaf-item true 0 rest λ t. least-none (taken rest t))
+      pair-item true 1 0 (exactly "//") (leaf to-line-end) (mark-item "//" (suc-le-suc zero-le))
+      (leaf-item true 0 to-line-end λ t. least-none (taken to-line-end t))
 
   trivia-item : Item true 1 trivia-impl
   unfolding trivia-impl
-  trivia-item =
-      or-item true 1 (leaf (run1 blank)) (c-comment or cpp-comment) (leaf-item true 1 (run1 blank) λ t. least-one (run blank t))
-      (or-item true 1 c-comment cpp-comment c-item cpp-item)
+  trivia-item = or-item true 1 (leaf (run1 blank)) (c-comment or cpp-comment) blank-item (or-item true 1 c-comment cpp-comment c-item cpp-item)
 
   line-item : Item true 1 new-line
   unfolding new-line
@@ -199,12 +207,78 @@ module _ (τ : Rule → Scan Rows) (l : ℕ) (m : Parser) (h : Item τ l true 1 
   run-nothing : (q : Input) → scan τ m l q ≡ fails false 0 → scan τ (opt (m ▸ many0 m)) l q ≡ fits [] q false 0
   run-nothing q e = ap (run-from q) e
 
--- Trivia -------------------------------------------------------------------
+-- A `/` that begins no comment ---------------------------------------------
 
--- if one of two alternatives fits, they do not both fail
+-- of two alternatives that fail each fails
 first-fails : (q : Input) (s : Summary Rows) (f : Unit {0} → Summary Rows) → Reads true 1 q s → elseˢ s f ≡ fails false 0 → s ≡ fails false 0
 first-fails q (fits a r b k) f i e = e
 first-fails q (fails b k) f i e = fail-path (fails b k) b k refl (i .0) (i .1)
+
+second-fails : (s : Summary Rows) (f : Unit {0} → Summary Rows) → s ≡ fails false 0 → elseˢ s f ≡ fails false 0 → f tt ≡ fails false 0
+second-fails s f e h = sym (more-none (f tt)) ∙ sym (ap (λ z. elseˢ z f) e) ∙ h
+
+abbrev Fitting : Summary Rows → Type 0
+Fitting (fits a q b k) = Unit {0}
+Fitting (fails b k) = ⊥
+
+more-fitting : (b : Bool) (k : ℕ) (s : Summary Rows) → Fitting s → Fitting (more b k s)
+more-fitting b k (fits a q c j) h = tt
+more-fitting b k (fails c j) h = h
+
+else-fitting : (s : Summary Rows) (f : Unit {0} → Summary Rows) → Fitting (f tt) → Fitting (elseˢ s f)
+else-fitting (fits a q b k) f h = tt
+else-fitting (fails b k) f h = more-fitting b k (f tt) h
+
+-- a mark of two bytes, and what stands behind it
+abbrev marking : Bool → Input → (Input → Summary Rows) → Summary Rows
+marking b q n = thenˢ (takeˢ (given b 2) q) λ a r. withˢ (a ++_) (n r)
+
+marking-fits : (q : Input) (n : Input → Summary Rows) → Fitting (n (behind 2 q)) → Fitting (marking true q n)
+marking-fits q n h = more-fitting false 0 (withˢ ([] ++_) (n (behind 2 q))) (go (n (behind 2 q)) h)
+  where
+    go : (s : Summary Rows) → Fitting s → Fitting (withˢ ([] ++_) s)
+    go (fits a r b k) i = tt
+    go (fails b k) i = i
+
+star-fails : (b : Bool) (q : Input) (n : Input → Summary Rows) → ((r : Input) → Fitting (n r)) → marking b q n ≡ fails false 0 → b ≡ false
+star-fails true q n h e = absurd (subst Fitting e (marking-fits q n (h (behind 2 q))))
+star-fails false q n h e = refl
+
+line-ends : (t : List ℕ) (r : Input) → (Fitting (takeˢ (taken to-line-end t) r) → ⊥) → Ends (first t)
+line-ends [] r h = tt
+line-ends (b ∷ t) r h = go (line-end b) h
+  where
+    go : (x : Bool) → (Fitting (takeˢ (at-least-one (elim (not x) [ true ↦ suc (run (λ b. not (line-end b)) t) | false ↦ 0 ])) r) → ⊥) → T x
+    go true i = tt
+    go false i = i tt
+
+slashes-end : (b : Bool) (q : Input) → marking b q (λ r. takeˢ (taken to-line-end (r .left)) r) ≡ fails false 0 → T b → Ends (first (drop 2 (q .left)))
+slashes-end true q e t =
+    line-ends (drop 2 (q .left)) (behind 2 q) λ h. subst Fitting e (marking-fits q (λ r. takeˢ (taken to-line-end (r .left)) r) h)
+slashes-end false q e t = absurd t
+
+-- Trivia -------------------------------------------------------------------
+
+module _ (τ : Rule → Scan Rows) (l : ℕ) where
+  comments-fail : (q : Input) → scan τ trivia-impl l q ≡ fails false 0 → scan τ (c-comment or cpp-comment) l q ≡ fails false 0
+  unfolding trivia-impl
+  comments-fail q e =
+      let blanks = scan τ (leaf (run1 blank)) l q in
+      let others : Unit {0} → Summary Rows = λ t. scan τ (c-comment or cpp-comment) l q in
+      second-fails blanks others (first-fails q blanks others (blank-item τ l q) e) e
+
+  c-fails : (q : Input) → scan τ (c-comment or cpp-comment) l q ≡ fails false 0 → scan τ c-comment l q ≡ fails false 0
+  c-fails q e = first-fails q (scan τ c-comment l q) (λ t. scan τ cpp-comment l q) (c-item τ l q) e
+
+  comments-bare : (q : Input) → scan τ (c-comment or cpp-comment) l q ≡ fails false 0 → first (q .left) ≡ some 47 → Bare (q .left)
+  unfolding c-comment cpp-comment
+  comments-bare q e z =
+      record {
+        slash = z;
+        star = star-fails (begins (bytes "/*") (q .left)) q (scan τ (leaf comment-rest or unterminated) l)
+            (λ r. else-fitting (scan τ (leaf comment-rest) l r) (λ t. scan τ unterminated l r) tt) (c-fails q e);
+        ends = slashes-end (begins (bytes "//") (q .left)) q (second-fails (scan τ c-comment l q) (λ t. scan τ cpp-comment l q) (c-fails q e) e);
+      }
 
 module _ (τ : Rule → Scan Rows) (l : ℕ) (p : Input) where
   -- trivia always fits, with no rows and no level
@@ -234,3 +308,16 @@ module _ (τ : Rule → Scan Rows) (l : ℕ) (p : Input) where
         run-nothing τ l trivia-impl (trivia-item τ l) q
         (first-fails q (scan τ trivia-impl l q) (λ t. scan τ new-line l q) (trivia-item τ l q)
         (run-stops τ l (trivia-impl or new-line) (mtrivia-item τ l) p a q b k e))
+
+    -- a `/` behind trivia begins no comment
+    pub trivia-slash : scan τ trivia l p ≡ fits a q b k → first (q .left) ≡ some 47 → Bare (q .left)
+    unfolding trivia
+    trivia-slash e z = comments-bare τ l q (comments-fail τ l q (run-stops τ l trivia-impl (trivia-item τ l) p a q b k e)) z
+
+    pub mtrivia-slash : scan τ multiline-trivia l p ≡ fits a q b k → first (q .left) ≡ some 47 → Bare (q .left)
+    unfolding multiline-trivia
+    mtrivia-slash e z =
+        comments-bare τ l q
+        (comments-fail τ l q
+        (first-fails q (scan τ trivia-impl l q) (λ t. scan τ new-line l q) (trivia-item τ l q)
+        (run-stops τ l (trivia-impl or new-line) (mtrivia-item τ l) p a q b k e))) z

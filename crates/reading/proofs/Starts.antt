@@ -15,7 +15,7 @@ use Rattle.reading.specs.Kind.{number-typeᵏ, number-textᵏ}
 use Rattle.reading.specs.Grammar.{Input, run1, Parser, empty, _▸_, leaf}
 use Rattle.reading.specs.Rules.{byte, trivia, multiline-trivia, ws, decimal, fn-call, identifier-value, current-pc, expression-parens, interpolated-string-factor, expression-factor-inner, braces, label, instruction, variable-definition, const-definition, pc-definition, config-definition, macro-definition, macro-invocation, data′, segment, loop′, if′, align, import′, text, file, test, assert, trace, all-rules}
 use Rattle.reading.proofs.Bool.{and-left, and-right}
-use Rattle.reading.proofs.First.{Verdict, no, nothing, still, maybe, front, first, front-at}
+use Rattle.reading.proofs.Verdict.{Verdict, no, nothing, still, marked, maybe, is-no, is-no→, front, bare, first, front-at}
 
 -- Places and classes of bytes ----------------------------------------------
 
@@ -23,34 +23,30 @@ use Rattle.reading.proofs.First.{Verdict, no, nothing, still, maybe, fr
 abbrev pub here : List ℕ → ℕ → Input
 here s i = record { at = i; left = drop i s }
 
+pub first-in : (s : List ℕ) (i : ℕ) → i < length s → first (drop i s) ≡ some (getD s i 0)
+first-in s i h = ap first (drop-cons s i 0 h)
+
+pub first-end : (s : List ℕ) (i : ℕ) → length s ≤ i → first (drop i s) ≡ none
+first-end s i h = ap first (drop-of-length-le s h)
+
 pub front-in : (m : Parser) (s : List ℕ) (i : ℕ) → i < length s → front-at m (here s i) ≡ front m (some (getD s i 0))
-front-in m s i h = ap (λ t. front m (first t)) (drop-cons s i 0 h)
+front-in m s i h = ap (front m) (first-in s i h)
 
 pub front-end : (m : Parser) (s : List ℕ) (i : ℕ) → length s ≤ i → front-at m (here s i) ≡ front m none
-front-end m s i h = ap (λ t. front m (first t)) (drop-of-length-le s h)
-
-abbrev pub is-no : Verdict → Bool
-is-no no = true
-is-no nothing = false
-is-no still = false
-is-no maybe = false
+front-end m s i h = ap (front m) (first-end s i h)
 
 abbrev pub is-nothing : Verdict → Bool
 is-nothing no = false
 is-nothing nothing = true
 is-nothing still = false
+is-nothing marked = false
 is-nothing maybe = false
-
-is-no→ : (x : Verdict) → T (is-no x) → x ≡ no
-is-no→ no t = refl
-is-no→ nothing t = absurd t
-is-no→ still t = absurd t
-is-no→ maybe t = absurd t
 
 is-nothing→ : (x : Verdict) → T (is-nothing x) → x ≡ nothing
 is-nothing→ no t = absurd t
 is-nothing→ nothing t = refl
 is-nothing→ still t = absurd t
+is-nothing→ marked t = absurd t
 is-nothing→ maybe t = absurd t
 
 -- a test of every number below n
@@ -186,6 +182,10 @@ pub factor-end : front expression-factor-inner none ≡ no
 unfolding all-rules
 factor-end = refl
 
+pub factor-bare : bare expression-factor-inner ≡ no
+unfolding all-rules
+factor-bare = refl
+
 -- Statements ---------------------------------------------------------------
 
 -- each alternative of statement, in its order, with the class of the bytes that it may begin with behind its trivia
@@ -203,9 +203,9 @@ entry xs i = getD xs i (empty, λ b. false)
 abbrev outside : (ℕ → Bool) → ℕ → Bool
 outside f b = not (f b || mtrivia-start b)
 
--- at every other byte, and at the end, it fails at once
+-- at every other byte, at the end, and at a `/` that begins no comment, it fails at once
 abbrev starts : Parser × (ℕ → Bool) → Bool
-starts x = says is-no (outside (x .1)) (x .0) && is-no (front (x .0) none)
+starts x = says is-no (outside (x .1)) (x .0) && (is-no (front (x .0) none) && is-no (bare (x .0)))
 
 abbrev all-start : List (Parser × (ℕ → Bool)) → Bool
 all-start [] = true
@@ -223,17 +223,25 @@ entry-starts (x ∷ xs) (suc i) h t = entry-starts xs i (le-of-suc-le-suc h) (an
 neither : (a c : Bool) → a ≡ false → c ≡ false → not (a || c) ≡ true
 neither a c e k = ap (λ x. not (x || c)) e ∙ ap not k
 
--- statement i at a byte that it may not begin with, and that begins no trivia
+starts-no : (x : Parser × (ℕ → Bool)) → T (starts x) → (b : ℕ) → b < 256 → x .1 b ≡ false → mtrivia-start b ≡ false → front (x .0) (some b) ≡ no
+starts-no x t b h e z =
+    says-no (outside (x .1)) (x .0) (and-left (says is-no (outside (x .1)) (x .0)) (is-no (front (x .0) none) && is-no (bare (x .0))) t) b h
+    (neither (x .1 b) (mtrivia-start b) e z)
+
+starts-else : (x : Parser × (ℕ → Bool)) → T (starts x) → T (is-no (front (x .0) none) && is-no (bare (x .0)))
+starts-else x t = and-right (says is-no (outside (x .1)) (x .0)) (is-no (front (x .0) none) && is-no (bare (x .0))) t
+
+-- statement i, from 0: at a byte that it may not begin with and that begins no trivia
 pub statement-no : (i : ℕ) → i < 20 → (b : ℕ) → b < 256 → entry statements i .1 b ≡ false → mtrivia-start b ≡ false
     → front (entry statements i .0) (some b) ≡ no
-statement-no i h b k e z =
-    let x = entry statements i in
-    says-no (outside (x .1)) (x .0)
-    (and-left (says is-no (outside (x .1)) (x .0)) (is-no (front (x .0) none)) (entry-starts statements i h statements-test)) b k
-    (neither (x .1 b) (mtrivia-start b) e z)
+statement-no i h b k e z = starts-no (entry statements i) (entry-starts statements i h statements-test) b k e z
 
 pub statement-end : (i : ℕ) → i < 20 → front (entry statements i .0) none ≡ no
 statement-end i h =
     let x = entry statements i in
-    is-no→ (front (x .0) none)
-    (and-right (says is-no (outside (x .1)) (x .0)) (is-no (front (x .0) none)) (entry-starts statements i h statements-test))
+    is-no→ (front (x .0) none) (and-left (is-no (front (x .0) none)) (is-no (bare (x .0))) (starts-else x (entry-starts statements i h statements-test)))
+
+pub statement-bare : (i : ℕ) → i < 20 → bare (entry statements i .0) ≡ no
+statement-bare i h =
+    let x = entry statements i in
+    is-no→ (bare (x .0)) (and-right (is-no (front (x .0) none)) (is-no (bare (x .0))) (starts-else x (entry-starts statements i h statements-test)))
