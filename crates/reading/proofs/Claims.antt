@@ -1,4 +1,4 @@
--- The texts of document 01, and single outcomes of the public calls, computed.
+-- The texts of document 01, a sample of the Rust's answers, and single outcomes of the public calls, computed.
 use mathlib.Core.Bool.{true, false}
 use mathlib.Core.List.{List, [], _∷_}
 use mathlib.Core.Path.{_≡_, refl}
@@ -9,6 +9,7 @@ use Rattle.reading.specs.Rules.{all-rules}
 use Rattle.reading.specs.Reading.{written}
 use Rattle.reading.specs.Case.{Hold}
 use Rattle.reading.specs.Texts.{texts}
+use Rattle.reading.specs.Sample.{sample}
 use Rattle.reading.specs.Table.{Answer, answered, refused, zeros}
 use Rattle.reading.specs.Outcome.{Call, Counts, Outcome, outcome, refusal, needs}
 use Rattle.reading.specs.Number.{hexadecimal, decimal, binary, number-value}
@@ -19,6 +20,11 @@ use Rattle.reading.specs.Walk.{walk}
 pub texts-read : Hold texts
 unfolding all-rules written
 texts-read = refl
+
+-- the sample of the vectors reads as the Rust reads it
+pub sample-read : Hold sample
+unfolding all-rules written
+sample-read = refl
 
 -- Levels -------------------------------------------------------------------
 

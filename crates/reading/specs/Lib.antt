@@ -6,6 +6,7 @@ pub mod Rules
 pub mod Reading
 pub mod Case
 pub mod Texts
+pub mod Sample
 pub mod Summary
 pub mod Table
 pub mod Outcome
