@@ -1,0 +1,383 @@
+-- Demand 3, of the outcome as it is defined: an answer in smaller limits is given in larger ones, word for word; a refusal for rows, errors
+-- or requests names the need, which no limit enters, and comes exactly when the room is less.
+use mathlib.Core.Path.{_≡_, refl, ap, ap₂, sym, subst, _∙_}
+use mathlib.Core.Bool.{Bool, true, false}
+use mathlib.Core.List.{List, [], _∷_}
+use mathlib.Core.Option.{Option, none, some}
+use Prim.Native.Nat.{ℕ, _*_, _-_, _≤_, _<_}
+use native.Mathlib.Omega.{arith}
+use borrow.Author.Tests.{lt-ltb, le-ltb, ltb-true, ltb-false}
+use lib.Dec.{ltb}
+use lib.ListN.{length, take}
+use lib.Seq.{take-at}
+use Rattle.reading.specs.Reading.{rows-of, state-of}
+use Rattle.reading.specs.Table.{Answer, answered, refused, Test, when, found, first, first-high, row-width, error-width, request-width, row-words, error-words, request-words, room, zeros}
+use Rattle.table.proofs.Holds.{words-length, rows-written, errors-written, requests-written}
+use Rattle.reading.specs.Outcome.{Call, Counts, Outcome, reading, needs, refusal, settled, outcome}
+
+-- The three kinds of records -----------------------------------------------
+
+pub data Kind : Type 0 where
+  rows errors requests : Kind
+
+abbrev pub number : Kind → ℕ
+number rows = 6
+number errors = 7
+number requests = 8
+
+abbrev pub width : Kind → ℕ
+width rows = row-width
+width errors = error-width
+width requests = request-width
+
+-- how many the reading has
+abbrev pub need : Kind → Call → ℕ
+need rows c = needs c .rows
+need errors c = needs c .errors
+need requests c = needs c .requests
+
+-- the table that is lent, and the words that the reading puts into it
+abbrev pub lent : Kind → Call → List ℕ
+lent rows c = c .rows
+lent errors c = c .errors
+lent requests c = c .requests
+
+abbrev pub words : Kind → Call → List ℕ
+words rows c = row-words (rows-of (reading c))
+words errors c = error-words (state-of (reading c) .errors)
+words requests c = request-words (state-of (reading c) .requests)
+
+-- the table afterwards
+abbrev pub left-in : Kind → Outcome → List ℕ
+left-in rows o = o .rows
+left-in errors o = o .errors
+left-in requests o = o .requests
+
+-- the same call with another table
+abbrev pub lending : Kind → List ℕ → Call → Call
+lending rows t c = record { text = c .text; scope = c .scope; swallow = c .swallow; level = c .level; rows = t; errors = c .errors; requests = c .requests }
+lending errors t c = record { text = c .text; scope = c .scope; swallow = c .swallow; level = c .level; rows = c .rows; errors = t; requests = c .requests }
+lending requests t c = record { text = c .text; scope = c .scope; swallow = c .swallow; level = c .level; rows = c .rows; errors = c .errors; requests = t }
+
+-- What refusals say --------------------------------------------------------
+
+-- the text can be read from this state within this level limit: none of 1 to 5
+pub record Readable (c : Call) : Type 0 where
+  pub short : length (c .text) ≤ 65536
+  pub plain : first-high 0 (c .text) ≡ none
+  pub scope : c .scope ≤ 1000000
+  pub level : c .level ≤ 64
+  pub deep : state-of (reading c) .peak ≤ c .level
+
+abbrev pub Enough : Kind → Call → Type 0
+Enough k c = need k c ≤ room (width k) (lent k c)
+
+abbrev tight : Kind → Call → Bool
+tight k c = ltb (room (width k) (lent k c)) (need k c)
+
+abbrev short? : Kind → Call → Test
+short? k c = when (tight k c) (number k) (need k c)
+
+when-false : (b : Bool) (n g : ℕ) → b ≡ false → when b n g ≡ none
+when-false b n g e = ap (λ x. when x n g) e
+
+when-none : (b : Bool) (n g : ℕ) → when b n g ≡ none → b ≡ false
+when-none true n g e = let z : _≡_ {A = ℕ} 0 1 = cc in absurd (let y : ⊥ = omega arith in y)
+when-none false n g e = refl
+
+found-none : (o : Option ℕ) (n : ℕ) → found o n ≡ none → o ≡ none
+found-none none n e = refl
+found-none (some g) n e = let z : _≡_ {A = ℕ} 0 1 = cc in absurd (let y : ⊥ = omega arith in y)
+
+-- a list of tests that finds x, where the first of them does not
+first-none : (t : Test) (ts : List Test) → first (t ∷ ts) ≡ none → (t ≡ none) × (first ts ≡ none)
+first-none none ts e = (refl, e)
+first-none (some x) ts e = let z : _≡_ {A = ℕ} 0 1 = cc in absurd (let y : ⊥ = omega arith in y)
+
+same : (x y : ℕ × ℕ) → _≡_ {A = Test} (some x) (some y) → x ≡ y
+same x y e = cc
+
+other : {A : Type 0} (m n h g : ℕ) → (m ≡ n → ⊥) → _≡_ {A = Test} (some (m, h)) (some (n, g)) → A
+other m n h g d e = absurd (d (ap (λ (x : ℕ × ℕ). x .0) (same (m, h) (n, g) e)))
+
+when-other : (b : Bool) (m h n g : ℕ) (ts : List Test) → (m ≡ n → ⊥) → first (when b m h ∷ ts) ≡ some (n, g) → (b ≡ false) × (first ts ≡ some (n, g))
+when-other true m h n g ts d e = other m n h g d e
+when-other false m h n g ts d e = (refl, e)
+
+found-other : (o : Option ℕ) (m n g : ℕ) (ts : List Test) → (m ≡ n → ⊥) → first (found o m ∷ ts) ≡ some (n, g) → (o ≡ none) × (first ts ≡ some (n, g))
+found-other none m n g ts d e = (refl, e)
+found-other (some h) m n g ts d e = other m n h g d e
+
+when-this : (b : Bool) (n h g : ℕ) (ts : List Test) → ((j : ℕ) → first ts ≡ some (n, j) → ⊥) → first (when b n h ∷ ts) ≡ some (n, g) → (b ≡ true) × (g ≡ h)
+when-this true n h g ts d e = (refl, sym (ap (λ (x : ℕ × ℕ). x .1) (same (n, h) (n, g) e)))
+when-this false n h g ts d e = absurd (d g e)
+
+none-some : (x : ℕ × ℕ) → _≡_ {A = Test} none (some x) → ⊥
+none-some x e = let z : _≡_ {A = ℕ} 0 1 = cc in omega arith
+
+-- the tests for room: what is left of a readable call's
+abbrev rooms : Call → Test
+rooms c = first (short? rows c ∷ short? errors c ∷ short? requests c ∷ [])
+
+five : (a b c d e : Test) (ts : List Test) → a ≡ none → b ≡ none → c ≡ none → d ≡ none → e ≡ none → first (a ∷ b ∷ c ∷ d ∷ e ∷ ts) ≡ first ts
+five a b c d e ts p q r s t = rw (p, q, r, s, t)
+
+readable-rooms : (c : Call) → Readable c → refusal c ≡ rooms c
+unfolding refusal
+readable-rooms c h =
+    five _ _ _ _ _ (short? rows c ∷ short? errors c ∷ short? requests c ∷ []) (when-false _ _ _ (le-ltb 65536 (length (c .text)) (h .short))) (ap (λ o. found o 2) (h .plain))
+    (when-false _ _ _ (le-ltb 1000000 (c .scope) (h .scope))) (when-false _ _ _ (le-ltb 64 (c .level) (h .level))) (when-false _ _ _ (le-ltb (c .level) (state-of (reading c) .peak) (h .deep)))
+
+-- An answer says that nothing is refused, and the other way round -----------
+
+answer-none : (c : Call) (n : Counts) → outcome c .answer ≡ answered n → (refusal c ≡ none) × (n ≡ needs c)
+unfolding outcome
+answer-none c n e = go (refusal c) refl e
+  where
+    go : (t : Test) → refusal c ≡ t → settled c t .answer ≡ answered n → (refusal c ≡ none) × (n ≡ needs c)
+    go none p q = (p, let z : answered (needs c) ≡ answered n = q in cc)
+    go (some x) p q = let z : _≡_ {A = ℕ} 0 1 = cc in absurd (let y : ⊥ = omega arith in y)
+
+refused-is : (m h n g : ℕ) → _≡_ {A = Answer Counts} (refused m h) (refused n g) → (m ≡ n) × (h ≡ g)
+refused-is m h n g e = (cc, cc)
+
+refusal-some : (c : Call) (n g : ℕ) → outcome c .answer ≡ refused n g → refusal c ≡ some (n, g)
+unfolding outcome
+refusal-some c n g e = go (refusal c) refl e
+  where
+    go : (t : Test) → refusal c ≡ t → settled c t .answer ≡ refused n g → refusal c ≡ some (n, g)
+    go none p q = let z : _≡_ {A = ℕ} 0 1 = cc in absurd (let y : ⊥ = omega arith in y)
+    go (some (m, h)) p q = let z = refused-is m h n g q in p ∙ ap₂ (λ (a b : ℕ). some (a, b)) (z .0) (z .1)
+
+some-refusal : (c : Call) (n g : ℕ) → refusal c ≡ some (n, g) → outcome c .answer ≡ refused n g
+unfolding outcome
+some-refusal c n g e = ap (λ t. settled c t .answer) e
+
+eight : (a b c d e f g h : Test) → first (a ∷ b ∷ c ∷ d ∷ e ∷ f ∷ g ∷ h ∷ []) ≡ none
+    → (a ≡ none) × (b ≡ none) × (c ≡ none) × (d ≡ none) × (e ≡ none) × (f ≡ none) × (g ≡ none) × (h ≡ none)
+eight a b c d e f g h z =
+    let x₁ = first-none a (b ∷ c ∷ d ∷ e ∷ f ∷ g ∷ h ∷ []) z in
+    let x₂ = first-none b (c ∷ d ∷ e ∷ f ∷ g ∷ h ∷ []) (x₁ .1) in
+    let x₃ = first-none c (d ∷ e ∷ f ∷ g ∷ h ∷ []) (x₂ .1) in
+    let x₄ = first-none d (e ∷ f ∷ g ∷ h ∷ []) (x₃ .1) in
+    let x₅ = first-none e (f ∷ g ∷ h ∷ []) (x₄ .1) in
+    let x₆ = first-none f (g ∷ h ∷ []) (x₅ .1) in
+    let x₇ = first-none g (h ∷ []) (x₆ .1) in
+    let x₈ = first-none h [] (x₇ .1) in
+    (x₁ .0, x₂ .0, x₃ .0, x₄ .0, x₅ .0, x₆ .0, x₇ .0, x₈ .0)
+
+-- nothing is refused: the call is readable, and there is room for each kind
+none-fits : (c : Call) → refusal c ≡ none → Readable c × ((k : Kind) → Enough k c)
+unfolding refusal
+none-fits c e =
+    let x = eight _ _ _ _ _ _ _ _ e in (
+      record {
+        short = ltb-false 65536 (length (c .text)) (when-none _ _ _ (x .0));
+        plain = found-none _ _ (x .1);
+        scope = ltb-false 1000000 (c .scope) (when-none _ _ _ (x .2));
+        level = ltb-false 64 (c .level) (when-none _ _ _ (x .3));
+        deep = ltb-false (c .level) (state-of (reading c) .peak) (when-none _ _ _ (x .4));
+      },
+      λ k. enough k (x .5) (x .6) (x .7),
+    )
+  where
+    enough : (k : Kind) → short? rows c ≡ none → short? errors c ≡ none → short? requests c ≡ none → Enough k c
+    enough rows f g h = ltb-false _ _ (when-none _ _ _ f)
+    enough errors f g h = ltb-false _ _ (when-none _ _ _ g)
+    enough requests f g h = ltb-false _ _ (when-none _ _ _ h)
+
+fits-none : (c : Call) → Readable c → ((k : Kind) → Enough k c) → refusal c ≡ none
+fits-none c h r =
+    readable-rooms c h ∙ three _ _ _ (when-false _ _ _ (le-ltb _ _ (r rows))) (when-false _ _ _ (le-ltb _ _ (r errors))) (when-false _ _ _ (le-ltb _ _ (r requests)))
+  where
+    three : (a b c : Test) → a ≡ none → b ≡ none → c ≡ none → first (a ∷ b ∷ c ∷ []) ≡ none
+    three a b c p q r = rw (p, q, r)
+
+-- Answers ------------------------------------------------------------------
+
+-- what an answer gives, in full: the counts, the end state and the records are those of the reading
+pub record Given (c : Call) (n : Counts) : Type 0 where
+  pub answer : outcome c .answer ≡ answered n
+  pub counts : n ≡ needs c
+  pub scope : outcome c .scope ≡ state-of (reading c) .scope
+  pub swallow : outcome c .swallow ≡ state-of (reading c) .swallow
+  pub records : (k : Kind) → take (need k c * width k) (left-in k (outcome c)) ≡ words k c
+
+words-are : (k : Kind) (c : Call) → length (words k c) ≡ need k c * width k
+unfolding needs
+words-are rows c = words-length rows-written (rows-of (reading c))
+words-are errors c = words-length errors-written (state-of (reading c) .errors)
+words-are requests c = words-length requests-written (state-of (reading c) .requests)
+
+none-given : (c : Call) → refusal c ≡ none → Given c (needs c)
+unfolding outcome
+none-given c e =
+    record {
+      answer = ap (λ t. settled c t .answer) e;
+      counts = refl;
+      scope = ap (λ t. settled c t .scope) e;
+      swallow = ap (λ t. settled c t .swallow) e;
+      records = λ k. ap (λ t. take (need k c * width k) (left-in k (settled c t))) e ∙ held k;
+    }
+  where
+    held : (k : Kind) → take (need k c * width k) (left-in k (settled c none)) ≡ words k c
+    held rows = take-at (words rows c) (zeros (length (c .rows) - length (words rows c))) _ (words-are rows c)
+    held errors = take-at (words errors c) (zeros (length (c .errors) - length (words errors c))) _ (words-are errors c)
+    held requests = take-at (words requests c) (zeros (length (c .requests) - length (words requests c))) _ (words-are requests c)
+
+-- the same text from the same state, in other limits
+abbrev pub limited : Call → ℕ → List ℕ → List ℕ → List ℕ → Call
+limited c l t e q = record { text = c .text; scope = c .scope; swallow = c .swallow; level = l; rows = t; errors = e; requests = q }
+
+needs-limited : (c : Call) (l : ℕ) (t e q : List ℕ) → needs (limited c l t e q) ≡ needs c
+unfolding needs
+needs-limited c l t e q = refl
+
+-- what is answered in the smaller limits is answered in the larger ones: the same counts, end state and records, all of them the reading's
+pub answer-grows : (c : Call) (l : ℕ) (t e q : List ℕ) → c .level ≤ l → l ≤ 64 → ((k : Kind) → room (width k) (lent k c) ≤ room (width k) (lent k (limited c l t e q)))
+    → (n : Counts) → outcome c .answer ≡ answered n → Given c n × Given (limited c l t e q) n
+unfolding needs
+answer-grows c l t e q h i r n a =
+    let x = answer-none c n a in
+    let y = none-fits c (x .0) in
+    let z : Readable (limited c l t e q) = record { short = y .0 .short; plain = y .0 .plain; scope = y .0 .scope; level = i; deep = omega (arith, y .0 .deep) } in (
+      subst (Given c) (sym (x .1)) (none-given c (x .0)),
+      subst (Given (limited c l t e q)) (sym (x .1)) (none-given (limited c l t e q) (fits-none (limited c l t e q) z λ k. enough k (y .1 k) (r k))),
+    )
+  where
+    enough : (k : Kind) → Enough k c → room (width k) (lent k c) ≤ room (width k) (lent k (limited c l t e q)) → Enough k (limited c l t e q)
+    enough rows a b = omega arith
+    enough errors a b = omega arith
+    enough requests a b = omega arith
+
+-- Refusals for room --------------------------------------------------------
+
+-- there is room for the kinds that are tested before this one
+abbrev pub Before : Kind → Call → Type 0
+Before rows c = Unit {0}
+Before errors c = Enough rows c
+Before requests c = Enough rows c × Enough errors c
+
+abbrev pub Short : Kind → Call → Type 0
+Short k c = room (width k) (lent k c) < need k c
+
+-- when a refusal for room comes
+pub record Lacks (k : Kind) (c : Call) : Type 0 where
+  pub readable : Readable c
+  pub before : Before k c
+  pub short : Short k c
+
+lacks-rooms : (k : Kind) (c : Call) → Before k c → Short k c → rooms c ≡ some (number k, need k c)
+lacks-rooms rows c b h = ap (λ x. first (when x 6 (need rows c) ∷ short? errors c ∷ short? requests c ∷ [])) (lt-ltb _ _ h)
+lacks-rooms errors c b h =
+    ap₂ (λ x y. first (when x 6 (need rows c) ∷ when y 7 (need errors c) ∷ short? requests c ∷ [])) (le-ltb (room row-width (c .rows)) (need rows c) b) (lt-ltb _ _ h)
+lacks-rooms requests c b h =
+    ap₂ (λ x y. first (when x 6 (need rows c) ∷ when y 7 (need errors c) ∷ short? requests c ∷ [])) (le-ltb (room row-width (c .rows)) (need rows c) (b .0))
+    (le-ltb (room error-width (c .errors)) (need errors c) (b .1))
+    ∙ ap (λ x. first (when x 8 (need requests c) ∷ [])) (lt-ltb _ _ h)
+
+-- the refusal comes if there is too little room, and gives the need
+pub lacks-refused : (k : Kind) (c : Call) → Lacks k c → outcome c .answer ≡ refused (number k) (need k c)
+lacks-refused k c h = some-refusal c (number k) (need k c) (readable-rooms c (h .readable) ∙ lacks-rooms k c (h .before) (h .short))
+
+-- which of three tests gave this
+three-first : (a b c : Bool) (x y z g : ℕ) → first (when a 6 x ∷ when b 7 y ∷ when c 8 z ∷ []) ≡ some (6, g) → (a ≡ true) × (g ≡ x)
+three-first a b c x y z g e =
+    when-this a 6 x g (when b 7 y ∷ when c 8 z ∷ []) (λ j h.
+    let i = when-other b 7 y 6 j (when c 8 z ∷ []) (λ (p : 7 ≡ 6). omega arith) h in
+    none-some (6, j) (when-other c 8 z 6 j [] (λ (p : 8 ≡ 6). omega arith) (i .1) .1)) e
+
+three-second : (a b c : Bool) (x y z g : ℕ) → first (when a 6 x ∷ when b 7 y ∷ when c 8 z ∷ []) ≡ some (7, g) → (a ≡ false) × (b ≡ true) × (g ≡ y)
+three-second a b c x y z g e =
+    let i = when-other a 6 x 7 g (when b 7 y ∷ when c 8 z ∷ []) (λ (p : 6 ≡ 7). omega arith) e in
+    let j = when-this b 7 y g (when c 8 z ∷ []) (λ j h. none-some (7, j) (when-other c 8 z 7 j [] (λ (p : 8 ≡ 7). omega arith) h .1)) (i .1) in
+    (i .0, j .0, j .1)
+
+three-third : (a b c : Bool) (x y z g : ℕ) → first (when a 6 x ∷ when b 7 y ∷ when c 8 z ∷ []) ≡ some (8, g) → (a ≡ false) × (b ≡ false) × (c ≡ true) × (g ≡ z)
+three-third a b c x y z g e =
+    let i = when-other a 6 x 8 g (when b 7 y ∷ when c 8 z ∷ []) (λ (p : 6 ≡ 8). omega arith) e in
+    let j = when-other b 7 y 8 g (when c 8 z ∷ []) (λ (p : 7 ≡ 8). omega arith) (i .1) in
+    let k = when-this c 8 z g [] (λ j h. none-some (8, j) h) (j .1) in
+    (i .0, j .0, k .0, k .1)
+
+rooms-lack : (k : Kind) (c : Call) (g : ℕ) → rooms c ≡ some (number k, g) → Before k c × Short k c × (g ≡ need k c)
+rooms-lack rows c g e =
+    let x = three-first (tight rows c) (tight errors c) (tight requests c) (need rows c) (need errors c) (need requests c) g e in
+    (tt, ltb-true _ _ (x .0), x .1)
+rooms-lack errors c g e =
+    let x = three-second (tight rows c) (tight errors c) (tight requests c) (need rows c) (need errors c) (need requests c) g e in
+    (ltb-false _ _ (x .0), ltb-true _ _ (x .1), x .2)
+rooms-lack requests c g e =
+    let x = three-third (tight rows c) (tight errors c) (tight requests c) (need rows c) (need errors c) (need requests c) g e in
+    ((ltb-false _ _ (x .0), ltb-false _ _ (x .1)), ltb-true _ _ (x .2), x .3)
+
+-- a refusal that is none of 1 to 5 comes from the tests behind theirs
+five-other : (a c d e : Bool) (b : Option ℕ) (f h i j : ℕ) (ts : List Test) (n g : ℕ) → 5 < n
+    → first (when a 1 f ∷ found b 2 ∷ when c 3 h ∷ when d 4 i ∷ when e 5 j ∷ ts) ≡ some (n, g)
+    → (a ≡ false) × (b ≡ none) × (c ≡ false) × (d ≡ false) × (e ≡ false) × (first ts ≡ some (n, g))
+five-other a c d e b f h i j ts n g l z =
+    let x₁ = when-other a 1 f n g (found b 2 ∷ when c 3 h ∷ when d 4 i ∷ when e 5 j ∷ ts) (λ p. omega arith) z in
+    let x₂ = found-other b 2 n g (when c 3 h ∷ when d 4 i ∷ when e 5 j ∷ ts) (λ p. omega arith) (x₁ .1) in
+    let x₃ = when-other c 3 h n g (when d 4 i ∷ when e 5 j ∷ ts) (λ p. omega arith) (x₂ .1) in
+    let x₄ = when-other d 4 i n g (when e 5 j ∷ ts) (λ p. omega arith) (x₃ .1) in
+    let x₅ = when-other e 5 j n g ts (λ p. omega arith) (x₄ .1) in
+    (x₁ .0, x₂ .0, x₃ .0, x₄ .0, x₅ .0, x₅ .1)
+
+room-number : (k : Kind) → 5 < number k
+room-number rows = omega arith
+room-number errors = omega arith
+room-number requests = omega arith
+
+room-readable : (k : Kind) (c : Call) (g : ℕ) → refusal c ≡ some (number k, g) → Readable c × (rooms c ≡ some (number k, g))
+unfolding refusal
+room-readable k c g e =
+    let x = five-other _ _ _ _ (first-high 0 (c .text)) _ _ _ _ (short? rows c ∷ short? errors c ∷ short? requests c ∷ []) (number k) g (room-number k) e in (
+      record {
+        short = ltb-false _ _ (x .0);
+        plain = x .1;
+        scope = ltb-false _ _ (x .2);
+        level = ltb-false _ _ (x .3);
+        deep = ltb-false _ _ (x .4);
+      },
+      x .5,
+    )
+
+-- and only then
+pub refused-lacks : (k : Kind) (c : Call) (g : ℕ) → outcome c .answer ≡ refused (number k) g → Lacks k c × (g ≡ need k c)
+refused-lacks k c g e =
+    let x = room-readable k c g (refusal-some c (number k) g e) in
+    let y = rooms-lack k c g (x .1) in
+    (record { readable = x .0; before = y .0; short = y .1 }, y .2)
+
+-- another table of one kind changes no need, and none of the tests before that kind's
+lending-need : (k : Kind) (t : List ℕ) (c : Call) → need k (lending k t c) ≡ need k c
+unfolding needs
+lending-need rows t c = refl
+lending-need errors t c = refl
+lending-need requests t c = refl
+
+lending-lacks : (k : Kind) (t : List ℕ) (c : Call) → Lacks k c → room (width k) t < need k c → Lacks k (lending k t c)
+unfolding needs
+lending-lacks rows t c x h = record { readable = record { short = x .readable .short; plain = x .readable .plain; scope = x .readable .scope; level = x .readable .level; deep = x .readable .deep }; before = tt; short = h }
+lending-lacks errors t c x h = record { readable = record { short = x .readable .short; plain = x .readable .plain; scope = x .readable .scope; level = x .readable .level; deep = x .readable .deep }; before = x .before; short = h }
+lending-lacks requests t c x h = record { readable = record { short = x .readable .short; plain = x .readable .plain; scope = x .readable .scope; level = x .readable .level; deep = x .readable .deep }; before = x .before; short = h }
+
+lending-room : (k : Kind) (t : List ℕ) (c : Call) → Short k (lending k t c) → room (width k) t < need k c
+unfolding needs
+lending-room rows t c h = h
+lending-room errors t c h = h
+lending-room requests t c h = h
+
+-- The other limits unchanged: with another table of that kind the refusal comes exactly if its room is less than what was given, and gives
+-- the same.
+pub refusal-exact : (k : Kind) (c : Call) (g : ℕ) → outcome c .answer ≡ refused (number k) g → (t : List ℕ)
+    → (room (width k) t < g → outcome (lending k t c) .answer ≡ refused (number k) g)
+    × ((j : ℕ) → outcome (lending k t c) .answer ≡ refused (number k) j → (room (width k) t < g) × (j ≡ g))
+refusal-exact k c g e t =
+    let x = refused-lacks k c g e in (
+      λ h. lacks-refused k (lending k t c) (lending-lacks k t c (x .0) (omega (arith, x .1))) ∙ ap (refused (number k)) (lending-need k t c ∙ sym (x .1)),
+      λ j f.
+          let y = refused-lacks k (lending k t c) j f in
+          let z = lending-room k t c (y .0 .short) in
+          (omega (arith, x .1), y .1 ∙ lending-need k t c ∙ sym (x .1)),
+    )

@@ -1,0 +1,1 @@
+// The call that reads a text.

@@ -1,0 +1,4 @@
+pub mod Facts
+mod Arms
+mod Picks
+mod Hashes
