@@ -30,7 +30,7 @@ first-from : (n a : ℕ) (v : Rows) (r : Row) → r .size ≡ suc (n + length v)
 first-from n a [] r e = ap (λ (b : Bool). elim b [ true ↦ r .low | false ↦ a ]) (eq-eqb (r .size) (suc n) (omega arith))
 first-from n a (x ∷ v) r e = first-from (suc n) _ v r (omega arith)
 
-first-under : (k d t a z : ℕ) (v : Rows) → first-low (under k d t a z v) ≡ a
+pub first-under : (k d t a z : ℕ) (v : Rows) → first-low (under k d t a z v) ≡ a
 first-under k d t a z v = first-from 0 0 v _ (omega arith)
 
 pub root-under : (k d t a z : ℕ) (v : Rows) → root (under k d t a z v) .low ≡ a

@@ -1,0 +1,9 @@
+pub mod Agree
+pub mod Reports
+pub mod Lift
+pub mod Laws
+pub mod Rows
+pub mod Bounds
+pub mod Items
+pub mod Blocks
+pub mod Requests
