@@ -123,8 +123,8 @@ holds-take w t ws h g =
     let e : length (take (length ws) t) ≡ length ws = length-take-le (length ws) t (omega (arith, div-mul-le-self (length t) w)) in
     ext-getD 0 (take (length ws) t) ws e (λ i l. getD-take (length ws) t i 0 (omega arith) ∙ h .word i (omega arith) (omega arith))
 
-pub holds-filled : (w : ℕ) (t ws : List ℕ) → Holds w t ws → length ws ≤ room w t * w → t ≡ take (length ws) t ++ zeros (length t - length ws) → t ≡ filled ws t
-holds-filled w t ws h g e = e ∙ ap (_++ zeros (length t - length ws)) (holds-take w t ws h g)
+pub holds-filled : (w : ℕ) (t ws : List ℕ) (k : ℕ) → Holds w t ws → length ws ≤ room w t * w → k ≡ length ws → take k t ++ zeros (length t - k) ≡ filled ws t
+holds-filled w t ws k h g e = rw e (ap (_++ zeros (length t - length ws)) (holds-take w t ws h g))
 
 -- Records of a kind --------------------------------------------------------
 

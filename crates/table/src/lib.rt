@@ -16,11 +16,11 @@ pub struct Pos(pub usize);
 // A row's number, counted from 0.
 pub struct RowIndex(pub usize);
 
-const ROW: usize = 6;
+pub const ROW: usize = 6;
 
-const ERROR: usize = 3;
+pub const ERROR: usize = 3;
 
-const REQUEST: usize = 2;
+pub const REQUEST: usize = 2;
 
 // A row with this number, if the table has room for it.
 pub fn push_row(

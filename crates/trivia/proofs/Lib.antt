@@ -1,0 +1,7 @@
+pub mod Table
+pub mod Marks
+pub mod Pieces
+pub mod Walk
+pub mod Highs
+pub mod Entries
+pub mod Outcome

@@ -1,0 +1,309 @@
+// Trivia: classes of bytes, runs, comments, the items of trivia, and the call that lists them.
+use class::CLASS;
+use cursor::Skip;
+use reading::MAX_TEXT;
+use table::Pos;
+ghost use mathlib.Core.Path.{_≡_};
+ghost use mathlib.Core.List.{[], _∷_};
+ghost use Prim.Native.Nat.{_+_, _≤_, _<_};
+ghost use lib.ListN.{length, drop, getD};
+ghost use Rattle.reading.specs.Byte.{blank, run, begins};
+ghost use Rattle.reading.specs.Rules.{trivia, multiline-trivia};
+ghost use Rattle.reading.specs.Table.{first-high};
+ghost use Rattle.reading.specs.Items.{trivia-items};
+ghost use Rattle.cursor.specs.Text.{Skips};
+ghost use Rattle.trivia.specs.Answers.{told, listed, high-of, Lists};
+ghost use Rattle.trivia.specs.Class.{bit, member};
+ghost use Rattle.trivia.specs.Piece.{closed, Starts, trivia-of};
+
+pub mod class;
+pub mod kind;
+
+// The bit of the class in an entry of the table.
+fn has(mask: u16, class: u32) -> bool
+    requires { ⌜ class < 16 ⌝ }
+    ensures { λ r. ⌜ r ≡ bit mask class ⌝ }
+{
+    (mask >> class) % 2 == 1
+}
+
+// The byte is of the class.
+pub fn is(b: u8, class: u32) -> bool
+    requires { ⌜ class < 16 ⌝ }
+    ensures { λ r. ⌜ r ≡ member class b ⌝ }
+{
+    has(CLASS[b as usize], class)
+}
+
+// The end of the run of the class that starts here. The table is set up once, not for each byte.
+pub fn run_end(s: &[u8], at: Pos, class: u32) -> Pos
+    requires { ⌜ class < 16 ⌝ }
+    ensures { λ r. ⌜ r .0 ≡ at .0 + run (member class) (drop (at .0) (now (s .entry))) ⌝ }
+{
+    let masks = CLASS;
+    let mut i = at.0;
+    while i < s.len() {
+        if !has(masks[s[i] as usize], class) {
+            return Pos(i);
+        }
+        i += 1;
+    }
+    Pos(i)
+}
+
+// Where a comment ends, or that the text ends first.
+pub enum Close {
+    At(Pos),
+    Open,
+}
+
+// The end of the block comment whose mark stands right before `at`. Comments nest, and no byte belongs to two marks.
+pub fn c_comment(s: &[u8], at: Pos) -> Close
+    ensures { λ r. ⌜ r ≡ closed (now (s .entry)) (at .0) ⌝ }
+{
+    let mut i = at.0;
+    let mut open: usize = 0;
+    let end = 'marks: loop {
+        let b = loop {
+            if s.len() <= i {
+                break 'marks Close::Open;
+            }
+            let b = s[i];
+            i += 1;
+            if (b == b'/') | (b == b'*') {
+                break b;
+            }
+        };
+        if i < s.len() {
+            let c = s[i];
+            if (b == b'*') & (c == b'/') {
+                i += 1;
+                if open == 0 {
+                    break 'marks Close::At(Pos(i));
+                }
+                open -= 1;
+            } else if (b == b'/') & (c == b'*') {
+                i += 1;
+                open += 1;
+            }
+        }
+    };
+    end
+}
+
+// The byte stands here.
+pub fn byte_is(s: &[u8], at: Pos, b: u8) -> bool
+    ensures { λ r. ⌜ r ≡ begins (b ∷ []) (drop (at .0) (now (s .entry))) ⌝ }
+{
+    let i = at.0;
+    if s.len() <= i {
+        return false;
+    }
+    b == s[i]
+}
+
+// The two bytes stand here.
+pub fn two_are(s: &[u8], at: Pos, a: u8, b: u8) -> bool
+    ensures { λ r. ⌜ r ≡ begins (a ∷ b ∷ []) (drop (at .0) (now (s .entry))) ⌝ }
+{
+    let i = at.0;
+    if s.len() <= i {
+        return false;
+    }
+    (a == s[i]) & byte_is(s, Pos(i + 1), b)
+}
+
+// One item of trivia: its kind and its end.
+pub enum Piece {
+    Item(usize, Pos),
+    No,
+}
+
+// What starts at a slash: a comment, or nothing.
+fn comment_item(s: &[u8], at: Pos) -> Piece
+    requires { ⌜ at .0 < length (now s) ⌝ }
+    requires { ⌜ getD (now s) (at .0) 0 ≡ 47 ⌝ }
+    ensures { λ r. ⌜ Starts (now (s .entry)) (at .0) r ⌝ }
+{
+    let behind = at.0 + 2;
+    if two_are(s, at, b'/', b'*') {
+        let close = c_comment(s, Pos(behind));
+        match close {
+            Close::At(end) => {
+                return Piece::Item(kind::BLOCK_COMMENT, end);
+            }
+            Close::Open => {
+                return Piece::Item(kind::UNTERMINATED, Pos(s.len()));
+            }
+        }
+    }
+    if two_are(s, at, b'/', b'/') {
+        let end = run_end(s, Pos(behind), class::COMMENT_TEXT);
+        if behind < end.0 {
+            return Piece::Item(kind::LINE_COMMENT, end);
+        }
+    }
+    Piece::No
+}
+
+// The end of the blanks that go on here. Most often there are none, and a byte above the space tells so without the table.
+fn blanks_end(s: &[u8], at: Pos) -> Pos
+    ensures { λ r. ⌜ r .0 ≡ at .0 + run blank (drop (at .0) (now (s .entry))) ⌝ }
+{
+    let i = at.0;
+    if i < s.len() {
+        if b' ' < s[i] {
+            return at;
+        }
+    }
+    run_end(s, at, class::BLANK)
+}
+
+// What starts here. Most bytes start nothing, and are answered at once.
+pub fn trivia_item(s: &[u8], at: Pos) -> Piece
+    ensures { λ r. ⌜ Starts (now (s .entry)) (at .0) r ⌝ }
+{
+    let low = at.0;
+    if s.len() <= low {
+        return Piece::No;
+    }
+    let b = s[low];
+    match b {
+        b'\t' | b' ' => {
+            let end = blanks_end(s, Pos(low + 1));
+            Piece::Item(kind::WHITESPACE, end)
+        }
+        b'\n' => Piece::Item(kind::NEWLINE, Pos(low + 1)),
+        b'\r' => {
+            if byte_is(s, Pos(low + 1), b'\n') {
+                Piece::Item(kind::NEWLINE, Pos(low + 2))
+            } else {
+                Piece::No
+            }
+        }
+        b'/' => comment_item(s, at),
+        _ => Piece::No,
+    }
+}
+
+// One item after another, line ends too or not.
+fn skip(s: &[u8], at: Pos, met: bool, lines: bool) -> Skip
+    requires { ⌜ at .0 ≤ length (now s) ⌝ }
+    ensures { λ r. ⌜ Skips (trivia-of lines) (now (s .entry)) (at .0) met r ⌝ }
+{
+    let mut i = at.0;
+    let mut m = met;
+    loop {
+        let piece = trivia_item(s, Pos(i));
+        let Piece::Item(kind, end) = piece else {
+            return Skip { at: Pos(i), met: m };
+        };
+        if (kind == kind::NEWLINE) & !lines {
+            return Skip { at: Pos(i), met: m };
+        }
+        i = end.0;
+        m = m | (kind == kind::UNTERMINATED);
+    }
+}
+
+// Trivia of one line, as ws reads it; `met` is that an open comment was met before.
+pub fn trivia(s: &[u8], at: Pos, met: bool) -> Skip
+    requires { ⌜ at .0 ≤ length (now s) ⌝ }
+    ensures { λ r. ⌜ Skips trivia (now (s .entry)) (at .0) met r ⌝ }
+{
+    skip(s, at, met, false)
+}
+
+// Trivia of several lines, as mws reads it.
+pub fn multiline_trivia(s: &[u8], at: Pos, met: bool) -> Skip
+    requires { ⌜ at .0 ≤ length (now s) ⌝ }
+    ensures { λ r. ⌜ Skips multiline-trivia (now (s .entry)) (at .0) met r ⌝ }
+{
+    skip(s, at, met, true)
+}
+
+// Where the first byte of 128 or more stands.
+pub enum High {
+    At(Pos),
+    No,
+}
+
+pub fn first_high(s: &[u8]) -> High
+    ensures { λ r. ⌜ high-of r ≡ first-high 0 (now (s .entry)) ⌝ }
+{
+    let mut i: usize = 0;
+    while i < s.len() {
+        if 128 <= s[i] {
+            return High::At(Pos(i));
+        }
+        i += 1;
+    }
+    High::No
+}
+
+// An item's words in a table: kind, low, high.
+const ITEM: usize = 3;
+
+// How many items were listed, and where they end.
+struct Listing {
+    count: usize,
+    end: Pos,
+}
+
+// The items from the text's start on, in the table as far as it has room. An item is pushed as an error is: three words.
+fn list_items(text: &[u8], table: &mut [u32]) -> Listing
+    requires { ⌜ length (now text) ≤ 65536 ⌝ }
+    ensures { λ r. ⌜ Lists (now (text .entry)) (now (table .exit)) r ⌝ }
+{
+    let mut i: usize = 0;
+    let mut n: usize = 0;
+    loop {
+        let piece = trivia_item(text, Pos(i));
+        let Piece::Item(kind, end) = piece else {
+            return Listing {
+                count: n,
+                end: Pos(i),
+            };
+        };
+        table::push_error(table, n, kind, Pos(i), end);
+        i = end.0;
+        n += 1;
+    }
+}
+
+// The number of items, or a refusal with what it gives.
+pub enum ItemsAnswer {
+    Count(usize),
+    TooLong(usize),
+    HighByte(usize),
+    NoItem(usize),
+    NoRoom(usize),
+}
+
+// The items of one trivia run. They are counted first with no table, since a text that is no run leaves the table as it was.
+pub fn items(text: &[u8], table: &mut [u32]) -> ItemsAnswer
+    ensures { λ r. ⌜ listed (told r) (now (table .exit)) ≡ trivia-items (now (text .entry)) (now (table .entry)) ⌝ }
+{
+    if MAX_TEXT < text.len() {
+        return ItemsAnswer::TooLong(text.len());
+    }
+    let high = first_high(text);
+    if let High::At(at) = high {
+        return ItemsAnswer::HighByte(at.0);
+    }
+    let mut none = [0u32; 0];
+    let listing = list_items(text, &mut none);
+    let end = listing.end.0;
+    let n = listing.count;
+    if end < text.len() {
+        return ItemsAnswer::NoItem(end);
+    }
+    let words = table.len();
+    if words / ITEM < n {
+        table::zero(table, 0);
+        return ItemsAnswer::NoRoom(n);
+    }
+    list_items(text, table);
+    table::zero(table, n * ITEM);
+    ItemsAnswer::Count(n)
+}
