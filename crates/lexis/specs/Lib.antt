@@ -1,0 +1,4 @@
+pub mod Behind
+pub mod Finds
+pub mod Picks
+pub mod Suffix

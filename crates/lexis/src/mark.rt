@@ -1,0 +1,112 @@
+// What stands behind trivia and has one row.
+use crate::Found;
+use cursor::Cursor;
+use cursor::Read;
+use cursor::Skip;
+use table::Pos;
+use table::RowIndex;
+use table::kind;
+ghost use Prim.Native.Nat.{_^_, _<_};
+ghost use Rattle.reading.specs.Byte.{is};
+ghost use Rattle.reading.specs.Grammar.{leaf, one, run0, run1, tag-no-case, _▸_, always};
+ghost use Rattle.reading.specs.Kind.{charᵏ};
+ghost use Rattle.trivia.specs.Class.{member};
+ghost use Rattle.lexis.specs.Behind.{Behind, Placed, Rowed};
+ghost use Rattle.lexis.specs.Finds.{Finds};
+
+// The row of what stands from `k.at` to `high`.
+pub fn row(c: Cursor, k: Skip, high: Pos, kind: usize, detail: usize, rows: &mut [u32]) -> Read
+    requires { ⌜ (c .count .0 < 2 ^ 32) × (c .at .0 < 2 ^ 32) × (k .at .0 < 2 ^ 32) × (high .0 < 2 ^ 32) × (kind < 2 ^ 32) × (detail < 2 ^ 32) ⌝ }
+    ensures { λ r. ⌜ Rowed kind detail c k (high .0) (now (rows .entry)) (now (rows .exit)) r ⌝ }
+{
+    let n = c.count.0;
+    table::push_row(rows, RowIndex(n), kind, 1, c.at, k.at, high, detail);
+    Read::Got(Cursor {
+        at: high,
+        count: RowIndex(n + 1),
+        met: k.met,
+    })
+}
+
+// The byte `b`.
+pub fn char(s: &[u8], c: Cursor, k: Skip, b: u8, rows: &mut [u32]) -> Read
+    requires { ⌜ Placed (now s) c k ⌝ }
+    ensures { λ r. ⌜ Behind charᵏ (always b) (leaf (one (is b))) (now (s .entry)) c k (now (rows .entry)) (now (rows .exit)) r ⌝ }
+{
+    let low = k.at;
+    if trivia::byte_is(s, low, b) {
+        return row(c, k, Pos(low.0 + 1), kind::CHAR, b as usize, rows);
+    }
+    Read::Miss(k.met)
+}
+
+// One byte of the first class, and a run of the second.
+pub fn name_end(s: &[u8], at: Pos, start: u32, class: u32) -> Found
+    requires { ⌜ (start < 16) × (class < 16) ⌝ }
+    ensures { λ r. ⌜ Finds (leaf (one (member start)) ▸ leaf (run0 (member class))) (now (s .entry)) (at .0) r ⌝ }
+{
+    let i = at.0;
+    if s.len() <= i {
+        return Found::No;
+    }
+    if !trivia::is(s[i], start) {
+        return Found::No;
+    }
+    Found::At(trivia::run_end(s, Pos(i + 1), class))
+}
+
+// The same with its row: a name, a config key.
+pub fn name(
+    s: &[u8],
+    c: Cursor,
+    k: Skip,
+    start: u32,
+    class: u32,
+    kind: usize,
+    rows: &mut [u32],
+) -> Read
+    requires { ⌜ Placed (now s) c k ⌝ }
+    requires { ⌜ (start < 16) × (class < 16) × (kind < 2 ^ 32) ⌝ }
+    ensures { λ r. ⌜ Behind kind (always 0) (leaf (one (member start)) ▸ leaf (run0 (member class))) (now (s .entry)) c k (now (rows .entry)) (now (rows .exit)) r ⌝ }
+{
+    let f = name_end(s, k.at, start, class);
+    let Found::At(high) = f else {
+        return Read::Miss(k.met);
+    };
+    row(c, k, high, kind, 0, rows)
+}
+
+// A run of a class, of one byte at least: digits, a string's piece, error text.
+pub fn run(s: &[u8], c: Cursor, k: Skip, class: u32, kind: usize, rows: &mut [u32]) -> Read
+    requires { ⌜ Placed (now s) c k ⌝ }
+    requires { ⌜ (class < 16) × (kind < 2 ^ 32) ⌝ }
+    ensures { λ r. ⌜ Behind kind (always 0) (leaf (run1 (member class))) (now (s .entry)) c k (now (rows .entry)) (now (rows .exit)) r ⌝ }
+{
+    let low = k.at;
+    let high = trivia::run_end(s, low, class);
+    if high.0 <= low.0 {
+        return Read::Miss(k.met);
+    }
+    row(c, k, high, kind, 0, rows)
+}
+
+// A word in any letter case. It is given in lower case.
+pub fn word(
+    s: &[u8],
+    c: Cursor,
+    k: Skip,
+    word: &[u8],
+    kind: usize,
+    detail: usize,
+    rows: &mut [u32],
+) -> Read
+    requires { ⌜ Placed (now s) c k ⌝ }
+    requires { ⌜ (kind < 2 ^ 32) × (detail < 2 ^ 32) ⌝ }
+    ensures { λ r. ⌜ Behind kind (always detail) (leaf (tag-no-case (now (word .entry)))) (now (s .entry)) c k (now (rows .entry)) (now (rows .exit)) r ⌝ }
+{
+    let low = k.at;
+    if word::begins(s, low, word) {
+        return row(c, k, Pos(low.0 + word.len()), kind, detail, rows);
+    }
+    Read::Miss(k.met)
+}
