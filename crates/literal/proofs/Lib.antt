@@ -1,0 +1,3 @@
+pub mod Solids
+pub mod Numbers
+pub mod Strings
