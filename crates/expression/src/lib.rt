@@ -346,7 +346,7 @@ fn signed(s: &[u8], c: Cursor, k: Skip, left: usize, rows: &mut [u32]) -> Read
     around(c, low, d, kind::FACTOR, flags, rows)
 }
 
-// The alternatives in the Rust's order, each behind the trivia `k`. A call's name may come after line ends, and skips its own.
+// The alternatives in the Rust's order, each behind the trivia `k`. A call skips its own, since its name may come after line ends.
 fn expression_factor_inner(s: &[u8], c: Cursor, k: Skip, left: usize, rows: &mut [u32]) -> Read
     requires { ⌜ Ready 0 (now s) c ⌝ }
     requires { ⌜ Skips trivia (now s) (c .at .0) (c .met) k ⌝ }
