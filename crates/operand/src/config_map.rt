@@ -2,8 +2,6 @@
 use cursor::Cursor;
 use cursor::Read;
 use cursor::Skip;
-use table::Pos;
-use table::RowIndex;
 use table::kind;
 ghost use Prim.Native.Nat.{ℕ, _≤_};
 ghost use Rattle.reading.specs.Byte.{is};
@@ -42,37 +40,17 @@ fn kvps(s: &[u8], c: Cursor, left: usize, rows: &mut [u32]) -> Read
     requires { ⌜ Ready 0 (now s) c ⌝ }
     ensures { λ r. ⌜ Reads (many0 kvp ▸ mchar "}") (now (s .entry)) c left (now (rows .entry)) (now (rows .exit)) r ⌝ }
 {
-    let mut at = c.at.0;
-    let mut count = c.count.0;
-    let mut met = c.met;
+    let mut d = c;
     loop {
-        let f = kvp(
-            s,
-            Cursor {
-                at: Pos(at),
-                count: RowIndex(count),
-                met,
-            },
-            left,
-            rows,
-        );
+        let f = kvp(s, d, left, rows);
         match f {
-            Read::Got(d) => {
-                at = d.at.0;
-                count = d.count.0;
-                met = d.met;
+            Read::Got(e) => {
+                d = e;
             }
-            Read::Miss(m) => {
-                return mchar(
-                    s,
-                    Cursor {
-                        at: Pos(at),
-                        count: RowIndex(count),
-                        met: m,
-                    },
-                    b'}',
-                    rows,
-                );
+            Read::Miss(met) => {
+                let at = d.at;
+                let count = d.count;
+                return mchar(s, Cursor { at, count, met }, b'}', rows);
             }
             Read::Deep => {
                 return Read::Deep;

@@ -410,10 +410,10 @@ kvp-returns-3 t c =
     (at-multiline-trivia .multiline-trivia .ensures) (at-g .g .given .0 .0) (at-g .g .given .1) (at-finish .finish .ensures)
 
 abbrev kvps-Inv-loop : kvps-lts.InvT-loop
-kvps-Inv-loop s left rows₀ at₀ count₀ met₀ rows at count met = Looped (λ l j. l + left) kvpᵍ s at₀ count₀ met₀ rows₀ at count met rows
+kvps-Inv-loop s left rows₀ d₀ rows d = Looped (λ l j. l + left) kvpᵍ s (d₀ .at .0) (d₀ .count .0) (d₀ .met) rows₀ (d .at .0) (d .count .0) (d .met) rows
 
 abbrev kvps-μ-loop : kvps-lts.MeasureT-loop
-kvps-μ-loop s left rows₀ at₀ count₀ met₀ rows at count met = length s - at
+kvps-μ-loop s left rows₀ d₀ rows d = length s - d .at .0
 
 kvps-loop-holds : (t : ℕ) → kvps-lts.Need-loop-holds (kvps-calls t) (kvps-at t) kvps.Post kvps-Inv-loop kvps-μ-loop
 kvps-loop-holds t c = looped-none _ _ _ _ _ _ _ ((c .before .before .pre) .1 .within)
@@ -449,7 +449,7 @@ kvps-enum-known-f-2 t c = search needs
 
 kvps-mchar-requires : (t : ℕ) → kvps-lts.Need-mchar-requires (kvps-calls t) (kvps-at t) kvps.Post kvps-Inv-loop kvps-μ-loop
 kvps-mchar-requires t c κs =
-    let at-loop = c .before .before .before .before .before .before .before .before in
+    let at-loop = c .before .before .before .before .before .before .before .before .before .before in
     let start = at-loop .before .before .before in
     let r = start .pre .1 in
     let u = (at-loop .loop .inv) in
@@ -458,14 +458,14 @@ kvps-mchar-requires t c κs =
 kvps-same-length : (t : ℕ) → kvps-lts.Need-same-length (kvps-calls t) (kvps-at t) kvps.Post kvps-Inv-loop kvps-μ-loop
 kvps-same-length t c =
     let at-mchar = c .before .before in
-    let at-kvp = at-mchar .before .before .before .before .before .before .before in
+    let at-kvp = at-mchar .before .before .before .before .before .before .before .before .before in
     let at-loop = at-kvp .before .before in
     (at-mchar .mchar .kept) .1 .1 .1 .0 ∙ (at-kvp .kvp .kept) .1 .1 .1 .0 ∙ (at-loop .loop .inv) .progress .size
 
 kvps-returns : (t : ℕ) → kvps-lts.Need-returns (kvps-calls t) (kvps-at t) kvps.Post kvps-Inv-loop kvps-μ-loop
 kvps-returns t c =
     let at-mchar = c .before .before in
-    let at-f2 = at-mchar .before .before .before in
+    let at-f2 = at-mchar .before .before .before .before .before in
     let at-kvp = at-f2 .before .before .before .before in
     let at-loop = at-kvp .before .before in
     pairs-end (at-loop .loop .inv) (at-kvp .kvp .ensures) _ (at-f2 .f2 .given .1) (at-mchar .mchar .ensures)

@@ -1,0 +1,56 @@
+use Prim.Native.Nat.{_-_, _≤_}
+use native.Mathlib.Omega.{arith}
+use lib.ListN.{length}
+use borrow.Author.Needs.{needs}
+use Rattle.expression_test.proofs.line_end.Statement.{statement}
+use Rattle.expression_test.proofs.line_end.Tie as tie
+use Rattle.expression_test.proofs.line_end.Reads as reads
+use Rattle.expression_test.proofs.line_end.Lts as lts
+
+abbrev Inv-loop : tie.InvT-loop
+Inv-loop input at i₀ i = (at ≤ i) × (i ≤ length input)
+
+abbrev μ-loop : tie.MeasureT-loop
+μ-loop input at i₀ i = length input - i
+
+-- src/main.rt:56:5
+loop-holds : tie.Need-loop-holds Inv-loop μ-loop
+loop-holds c = (omega arith, omega arith)
+
+-- src/main.rt:57:12
+shared-slice-read-if1 : tie.Need-shared-slice-read-if1 Inv-loop μ-loop
+shared-slice-read-if1 c = search needs
+
+-- src/main.rt:58:13
+returns : tie.Need-returns Inv-loop μ-loop
+returns c = (omega arith, omega arith)
+
+-- src/main.rt:60:9
+add-i : tie.Need-add-i Inv-loop μ-loop
+add-i c = omega arith
+
+-- src/main.rt:56:5
+loop-less : tie.Need-loop-less Inv-loop μ-loop
+loop-less c = omega arith
+
+-- src/main.rt:56:5
+loop-again : tie.Need-loop-again Inv-loop μ-loop
+loop-again c = (omega arith, omega arith)
+
+-- src/main.rt:51:1
+returns-2 : tie.Need-returns-2 Inv-loop μ-loop
+returns-2 c = (omega arith, omega arith)
+
+pub line-end-spec : {M : Type 1} → statement M
+line-end-spec =
+    tie.close
+    (tie.spec
+    Inv-loop
+    μ-loop
+    loop-holds
+    shared-slice-read-if1
+    returns
+    add-i
+    loop-less
+    loop-again
+    returns-2)
