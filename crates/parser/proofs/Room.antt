@@ -72,10 +72,10 @@ pub record Readable (c : Call) : Type 0 where
 abbrev pub Enough : Kind → Call → Type 0
 Enough k c = need k c ≤ room (width k) (lent k c)
 
-abbrev tight : Kind → Call → Bool
+abbrev pub tight : Kind → Call → Bool
 tight k c = ltb (room (width k) (lent k c)) (need k c)
 
-abbrev short? : Kind → Call → Test
+abbrev pub short? : Kind → Call → Test
 short? k c = when (tight k c) (number k) (need k c)
 
 when-false : (b : Bool) (n g : ℕ) → b ≡ false → when b n g ≡ none
@@ -116,13 +116,13 @@ none-some : (x : ℕ × ℕ) → _≡_ {A = Test} none (some x) → ⊥
 none-some x e = let z : _≡_ {A = ℕ} 0 1 = cc in omega arith
 
 -- the tests for room: what is left of a readable call's
-abbrev rooms : Call → Test
+abbrev pub rooms : Call → Test
 rooms c = first (short? rows c ∷ short? errors c ∷ short? requests c ∷ [])
 
 five : (a b c d e : Test) (ts : List Test) → a ≡ none → b ≡ none → c ≡ none → d ≡ none → e ≡ none → first (a ∷ b ∷ c ∷ d ∷ e ∷ ts) ≡ first ts
 five a b c d e ts p q r s t = rw (p, q, r, s, t)
 
-readable-rooms : (c : Call) → Readable c → refusal c ≡ rooms c
+pub readable-rooms : (c : Call) → Readable c → refusal c ≡ rooms c
 unfolding refusal
 readable-rooms c h =
     five _ _ _ _ _ (short? rows c ∷ short? errors c ∷ short? requests c ∷ []) (when-false _ _ _ (le-ltb 65536 (length (c .text)) (h .short))) (ap (λ o. found o 2) (h .plain))
@@ -186,7 +186,7 @@ none-fits c e =
     enough errors f g h = ltb-false _ _ (when-none _ _ _ g)
     enough requests f g h = ltb-false _ _ (when-none _ _ _ h)
 
-fits-none : (c : Call) → Readable c → ((k : Kind) → Enough k c) → refusal c ≡ none
+pub fits-none : (c : Call) → Readable c → ((k : Kind) → Enough k c) → refusal c ≡ none
 fits-none c h r =
     readable-rooms c h ∙ three _ _ _ (when-false _ _ _ (le-ltb _ _ (r rows))) (when-false _ _ _ (le-ltb _ _ (r errors))) (when-false _ _ _ (le-ltb _ _ (r requests)))
   where
@@ -203,7 +203,7 @@ pub record Given (c : Call) (n : Counts) : Type 0 where
   pub swallow : outcome c .swallow ≡ state-of (reading c) .swallow
   pub records : (k : Kind) → take (need k c * width k) (left-in k (outcome c)) ≡ words k c
 
-words-are : (k : Kind) (c : Call) → length (words k c) ≡ need k c * width k
+pub words-are : (k : Kind) (c : Call) → length (words k c) ≡ need k c * width k
 unfolding needs
 words-are rows c = words-length rows-written (rows-of (reading c))
 words-are errors c = words-length errors-written (state-of (reading c) .errors)
@@ -267,7 +267,7 @@ pub record Lacks (k : Kind) (c : Call) : Type 0 where
   pub before : Before k c
   pub short : Short k c
 
-lacks-rooms : (k : Kind) (c : Call) → Before k c → Short k c → rooms c ≡ some (number k, need k c)
+pub lacks-rooms : (k : Kind) (c : Call) → Before k c → Short k c → rooms c ≡ some (number k, need k c)
 lacks-rooms rows c b h = ap (λ x. first (when x 6 (need rows c) ∷ short? errors c ∷ short? requests c ∷ [])) (lt-ltb _ _ h)
 lacks-rooms errors c b h =
     ap₂ (λ x y. first (when x 6 (need rows c) ∷ when y 7 (need errors c) ∷ short? requests c ∷ [])) (le-ltb (room row-width (c .rows)) (need rows c) b) (lt-ltb _ _ h)

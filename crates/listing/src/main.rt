@@ -1,0 +1,87 @@
+// Prints the reading of standard input, as document 01 has it: rows, errors, requests and the end state, or a refusal.
+use libc::STDIN_FILENO;
+use libc::STDOUT_FILENO;
+use parser::Answer;
+use parser::Reading;
+ghost use Prim.Native.Nat.{_<_};
+
+// The longest input; one byte more is read, to see that there is more.
+const LONGEST: usize = 8192;
+
+fn main() {
+    let mut text = [0u8; 8193];
+    let n = io::read_full(STDIN_FILENO, &mut text);
+    if LONGEST < n {
+        refused(1, LONGEST);
+        return;
+    }
+    listing(&text[..n]);
+}
+
+// Room for 2,048 rows, 64 errors and 64 requests; level 32; from scope 0 with the flag clear.
+fn listing(text: &[u8]) {
+    let mut rows = [0u32; 12288];
+    let mut errors = [0u32; 192];
+    let mut requests = [0u32; 128];
+    let r = parser::read(text, 0, false, 32, &mut rows, &mut errors, &mut requests);
+    match r {
+        Answer::Read(x) => {
+            io::write_all(STDOUT_FILENO, b"kind size tlow low high detail\n");
+            records(&rows, x.rows, 6);
+            io::write_all(STDOUT_FILENO, b"error low high\n");
+            records(&errors, x.errors, 3);
+            io::write_all(STDOUT_FILENO, b"request low high\n");
+            records(&requests, x.requests, 2);
+            end(x);
+        }
+        Answer::TooLong(n) => refused(1, n),
+        Answer::HighByte(n) => refused(2, n),
+        Answer::ScopeTooLarge(n) => refused(3, n),
+        Answer::LevelTooLarge(n) => refused(4, n),
+        Answer::TooDeep(n) => refused(5, n),
+        Answer::NoRoomForRows(n) => refused(6, n),
+        Answer::NoRoomForErrors(n) => refused(7, n),
+        Answer::NoRoomForRequests(n) => refused(8, n),
+    }
+}
+
+fn refused(number: usize, gives: usize) {
+    io::write_all(STDOUT_FILENO, b"refusal number\n");
+    io::print_decimal(STDOUT_FILENO, number as u64);
+    io::write_all(STDOUT_FILENO, b" ");
+    io::print_decimal(STDOUT_FILENO, gives as u64);
+    io::write_all(STDOUT_FILENO, b"\n");
+}
+
+fn end(x: Reading) {
+    io::write_all(STDOUT_FILENO, b"scope swallow\n");
+    io::print_decimal(STDOUT_FILENO, x.scope as u64);
+    if x.swallow {
+        io::write_all(STDOUT_FILENO, b" 1\n");
+    } else {
+        io::write_all(STDOUT_FILENO, b" 0\n");
+    }
+}
+
+// So many records of this width, a line each.
+fn records(words: &[u32], n: usize, width: usize)
+    requires { ⌜ 0 < width ⌝ }
+{
+    let mut i: usize = 0;
+    while i < words.len() {
+        if n <= i / width {
+            return;
+        }
+        io::print_decimal(STDOUT_FILENO, wide(words[i]));
+        if i % width == width - 1 {
+            io::write_all(STDOUT_FILENO, b"\n");
+        } else {
+            io::write_all(STDOUT_FILENO, b" ");
+        }
+        i += 1;
+    }
+}
+
+fn wide(x: u32) -> u64 {
+    x as u64
+}
