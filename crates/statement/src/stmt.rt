@@ -1,17 +1,7 @@
 // The cycle of statements and blocks.
-use crate::Body;
-use crate::brace;
-use crate::quiet;
-use crate::row;
-use crate::start;
-use crate::text;
 use cursor::Cursor;
-use cursor::Skip;
 use state::Done;
 use state::State;
-use table::Pos;
-use table::RowIndex;
-use table::kind;
 ghost use mathlib.Core.Bool.{false};
 ghost use Prim.Native.Nat.{_^_, _≤_, _<_};
 ghost use lib.ListN.{length};
@@ -41,7 +31,7 @@ fn item(
     let Done::Miss(x) = r else {
         return r;
     };
-    text::error_in_block(s, c, x, rows, errors)
+    crate::text::error_in_block(s, c, x, rows, errors)
 }
 
 fn items(
@@ -64,8 +54,8 @@ fn items(
         let f = item(
             s,
             Cursor {
-                at: Pos(at),
-                count: RowIndex(count),
+                at: table::Pos(at),
+                count: table::RowIndex(count),
                 met: false,
             },
             state,
@@ -83,8 +73,8 @@ fn items(
             Done::Miss(x) => {
                 return Done::Got(
                     Cursor {
-                        at: Pos(at),
-                        count: RowIndex(count),
+                        at: table::Pos(at),
+                        count: table::RowIndex(count),
                         met: false,
                     },
                     x,
@@ -101,7 +91,7 @@ fn items(
 fn braced(
     s: &[u8],
     c: Cursor,
-    k: Skip,
+    k: cursor::Skip,
     st: State,
     left: usize,
     rows: &mut [u32],
@@ -114,19 +104,19 @@ fn braced(
 {
     let tlow = c.at;
     let base = c.count.0;
-    let f = brace::mark(s, c, k, st, b'{', rows, errors);
+    let f = crate::brace::mark(s, c, k, st, b'{', rows, errors);
     let Done::Got(d, x) = f else {
         return f;
     };
     if left == 0 {
         return Done::Deep;
     }
-    let low = Pos(d.at.0 - 1);
+    let low = table::Pos(d.at.0 - 1);
     let g = items(s, d, x, left - 1, rows, errors, requests);
     let Done::Got(e, y) = g else {
         return g;
     };
-    let h = brace::close(s, e, y, tlow, low, rows, errors);
+    let h = crate::brace::close(s, e, y, tlow, low, rows, errors);
     let Done::Got(j, z) = h else {
         return h;
     };
@@ -134,8 +124,8 @@ fn braced(
     let high = j.at;
     table::push_row(
         rows,
-        RowIndex(n),
-        kind::BLOCK,
+        table::RowIndex(n),
+        table::kind::BLOCK,
         n + 1 - base,
         tlow,
         low,
@@ -145,7 +135,7 @@ fn braced(
     Done::Got(
         Cursor {
             at: high,
-            count: RowIndex(n + 1),
+            count: table::RowIndex(n + 1),
             met: false,
         },
         z,
@@ -211,7 +201,7 @@ fn other(
     requires { ⌜ Fit 0 (now s) c st ⌝ }
     ensures { λ r. ⌜ Does (directive "else" ▸ block) (now (s .entry)) c st left (tables (now (rows .entry)) (now (errors .entry)) (now (requests .entry))) (tables (now (rows .exit)) (now (errors .exit)) (now (requests .exit))) r ⌝ }
 {
-    let f = start::else_head(s, c, st, rows, errors);
+    let f = crate::start::else_head(s, c, st, rows, errors);
     let Done::Got(d, x) = f else {
         return f;
     };
@@ -254,7 +244,7 @@ fn branches(
 fn body(
     s: &[u8],
     c: Cursor,
-    b: Body,
+    b: crate::Body,
     st: State,
     left: usize,
     rows: &mut [u32],
@@ -265,9 +255,9 @@ fn body(
     ensures { λ r. ⌜ Does (body-of b) (now (s .entry)) c st left (tables (now (rows .entry)) (now (errors .entry)) (now (requests .entry))) (tables (now (rows .exit)) (now (errors .exit)) (now (requests .exit))) r ⌝ }
 {
     match b {
-        Body::Maybe => maybe(s, c, st, left, rows, errors, requests),
-        Body::Block => block(s, c, st, left, rows, errors, requests),
-        Body::Branches => branches(s, c, st, left, rows, errors, requests),
+        crate::Body::Maybe => maybe(s, c, st, left, rows, errors, requests),
+        crate::Body::Block => block(s, c, st, left, rows, errors, requests),
+        crate::Body::Branches => branches(s, c, st, left, rows, errors, requests),
     }
 }
 
@@ -275,9 +265,9 @@ fn body(
 fn rest(
     s: &[u8],
     c: Cursor,
-    k: Skip,
+    k: cursor::Skip,
     h: Done,
-    b: Body,
+    b: crate::Body,
     kind: usize,
     scope: bool,
     left: usize,
@@ -296,16 +286,16 @@ fn rest(
     let Done::Got(e, y) = f else {
         return f;
     };
-    row::close(c, k, e, y, kind, scope, rows)
+    crate::row::close(c, k, e, y, kind, scope, rows)
 }
 
 // A statement of a directive and an expression.
 fn directive(
     s: &[u8],
     c: Cursor,
-    k: Skip,
+    k: cursor::Skip,
     word: &[u8],
-    b: Body,
+    b: crate::Body,
     kind: usize,
     scope: bool,
     st: State,
@@ -318,14 +308,14 @@ fn directive(
     requires { ⌜ Skips multiline-trivia (now s) (c .at .0) false k × (kind < 2 ^ 32) × (1 ≤ length (now word)) ⌝ }
     ensures { λ r. ⌜ Does (closing scope kind (directive-of (now (word .entry))) (expression ▸ body-of b)) (now (s .entry)) c st left (tables (now (rows .entry)) (now (errors .entry)) (now (requests .entry))) (tables (now (rows .exit)) (now (errors .exit)) (now (requests .exit))) r ⌝ }
 {
-    let h = start::directive_head(s, c, k, word, st, left, rows, errors);
+    let h = crate::start::directive_head(s, c, k, word, st, left, rows, errors);
     rest(s, c, k, h, b, kind, scope, left, rows, errors, requests)
 }
 
 fn braces(
     s: &[u8],
     c: Cursor,
-    k: Skip,
+    k: cursor::Skip,
     st: State,
     left: usize,
     rows: &mut [u32],
@@ -340,13 +330,13 @@ fn braces(
     let Done::Got(d, x) = f else {
         return f;
     };
-    row::close(c, k, d, x, kind::BRACES, true, rows)
+    crate::row::close(c, k, d, x, table::kind::BRACES, true, rows)
 }
 
 fn label(
     s: &[u8],
     c: Cursor,
-    k: Skip,
+    k: cursor::Skip,
     st: State,
     left: usize,
     rows: &mut [u32],
@@ -357,14 +347,14 @@ fn label(
     requires { ⌜ Skips multiline-trivia (now s) (c .at .0) false k ⌝ }
     ensures { λ r. ⌜ Does label (now (s .entry)) c st left (tables (now (rows .entry)) (now (errors .entry)) (now (requests .entry))) (tables (now (rows .exit)) (now (errors .exit)) (now (requests .exit))) r ⌝ }
 {
-    let h = start::label_head(s, c, k, st, rows, errors);
+    let h = crate::start::label_head(s, c, k, st, rows, errors);
     rest(
         s,
         c,
         k,
         h,
-        Body::Maybe,
-        kind::LABEL,
+        crate::Body::Maybe,
+        table::kind::LABEL,
         false,
         left,
         rows,
@@ -376,7 +366,7 @@ fn label(
 fn macro_of(
     s: &[u8],
     c: Cursor,
-    k: Skip,
+    k: cursor::Skip,
     st: State,
     left: usize,
     rows: &mut [u32],
@@ -387,14 +377,14 @@ fn macro_of(
     requires { ⌜ Skips multiline-trivia (now s) (c .at .0) false k ⌝ }
     ensures { λ r. ⌜ Does macro-definition (now (s .entry)) c st left (tables (now (rows .entry)) (now (errors .entry)) (now (requests .entry))) (tables (now (rows .exit)) (now (errors .exit)) (now (requests .exit))) r ⌝ }
 {
-    let h = start::macro_head(s, c, k, st, rows, errors);
+    let h = crate::start::macro_head(s, c, k, st, rows, errors);
     rest(
         s,
         c,
         k,
         h,
-        Body::Block,
-        kind::MACRO_DEFINITION,
+        crate::Body::Block,
+        table::kind::MACRO_DEFINITION,
         false,
         left,
         rows,
@@ -406,7 +396,7 @@ fn macro_of(
 fn import(
     s: &[u8],
     c: Cursor,
-    k: Skip,
+    k: cursor::Skip,
     st: State,
     left: usize,
     rows: &mut [u32],
@@ -417,30 +407,30 @@ fn import(
     requires { ⌜ Skips multiline-trivia (now s) (c .at .0) false k ⌝ }
     ensures { λ r. ⌜ Does import′ (now (s .entry)) c st left (tables (now (rows .entry)) (now (errors .entry)) (now (requests .entry))) (tables (now (rows .exit)) (now (errors .exit)) (now (requests .exit))) r ⌝ }
 {
-    let f = start::import_head(s, c, k, st, rows, errors);
+    let f = crate::start::import_head(s, c, k, st, rows, errors);
     let Done::Got(d, x) = f else {
         return f;
     };
     let from = d.at;
     let quote = trivia::trivia(s, from, false);
     let low = quote.at;
-    let g = start::import_file(s, d, x, rows, errors);
+    let g = crate::start::import_file(s, d, x, rows, errors);
     let Done::Got(e, y) = g else {
         return g;
     };
-    let high = Pos(e.at.0 - 1);
+    let high = table::Pos(e.at.0 - 1);
     let h = maybe(s, e, y, left, rows, errors, requests);
     let Done::Got(j, z) = h else {
         return h;
     };
-    row::import(c, k, j, z, low, high, rows, requests)
+    crate::row::import(c, k, j, z, low, high, rows, requests)
 }
 
 // The alternatives from .import on.
 fn fourth(
     s: &[u8],
     c: Cursor,
-    k: Skip,
+    k: cursor::Skip,
     st: State,
     left: usize,
     rows: &mut [u32],
@@ -455,7 +445,7 @@ fn fourth(
     let Done::Miss(st) = r else {
         return r;
     };
-    let r = quiet::texts(s, c, k, st, left, rows, errors);
+    let r = crate::quiet::texts(s, c, k, st, left, rows, errors);
     let Done::Miss(st) = r else {
         return r;
     };
@@ -464,8 +454,8 @@ fn fourth(
         c,
         k,
         b".test",
-        Body::Block,
-        kind::TEST,
+        crate::Body::Block,
+        table::kind::TEST,
         false,
         st,
         left,
@@ -476,14 +466,14 @@ fn fourth(
     let Done::Miss(st) = r else {
         return r;
     };
-    quiet::checks(s, c, k, st, left, rows, errors)
+    crate::quiet::checks(s, c, k, st, left, rows, errors)
 }
 
 // From .loop on.
 fn third(
     s: &[u8],
     c: Cursor,
-    k: Skip,
+    k: cursor::Skip,
     st: State,
     left: usize,
     rows: &mut [u32],
@@ -499,8 +489,8 @@ fn third(
         c,
         k,
         b".loop",
-        Body::Block,
-        kind::LOOP,
+        crate::Body::Block,
+        table::kind::LOOP,
         true,
         st,
         left,
@@ -516,8 +506,8 @@ fn third(
         c,
         k,
         b".if",
-        Body::Branches,
-        kind::IF,
+        crate::Body::Branches,
+        table::kind::IF,
         false,
         st,
         left,
@@ -528,7 +518,7 @@ fn third(
     let Done::Miss(st) = r else {
         return r;
     };
-    let r = quiet::align(s, c, k, st, left, rows, errors);
+    let r = crate::quiet::align(s, c, k, st, left, rows, errors);
     let Done::Miss(st) = r else {
         return r;
     };
@@ -539,7 +529,7 @@ fn third(
 fn second(
     s: &[u8],
     c: Cursor,
-    k: Skip,
+    k: cursor::Skip,
     st: State,
     left: usize,
     rows: &mut [u32],
@@ -554,7 +544,7 @@ fn second(
     let Done::Miss(st) = r else {
         return r;
     };
-    let r = quiet::calls(s, c, k, st, left, rows, errors);
+    let r = crate::quiet::calls(s, c, k, st, left, rows, errors);
     let Done::Miss(st) = r else {
         return r;
     };
@@ -563,8 +553,8 @@ fn second(
         c,
         k,
         b".segment",
-        Body::Maybe,
-        kind::SEGMENT,
+        crate::Body::Maybe,
+        table::kind::SEGMENT,
         false,
         st,
         left,
@@ -601,7 +591,7 @@ pub fn statement(
     let Done::Miss(st) = r else {
         return r;
     };
-    let r = quiet::instructions(s, c, k, st, left, rows, errors);
+    let r = crate::quiet::instructions(s, c, k, st, left, rows, errors);
     let Done::Miss(st) = r else {
         return r;
     };

@@ -1,5 +1,6 @@
 pub mod Table
 pub mod Marks
+pub mod Unmarked
 pub mod Pieces
 pub mod Walk
 pub mod Highs

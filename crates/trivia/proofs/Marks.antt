@@ -37,7 +37,7 @@ pub left-step : (s : List ℕ) (d i : ℕ) → i < length s → left s d 0 i ≡
 unfolding left
 left-step s d i h = ap (λ t. close-of i (comment d 0 t)) (cons s i h) ∙ close-plus i 1 (comment d (getD s i 0) (drop (i + 1) s))
 
-neither : (a b : Bool) → a || b ≡ false → (a ≡ false) × (b ≡ false)
+pub neither : (a b : Bool) → a || b ≡ false → (a ≡ false) × (b ≡ false)
 neither true b e = absurd (let z : _≡_ {A = ℕ} 0 1 = cc in let y : ⊥ = omega arith in y)
 neither false b e = (refl, e)
 

@@ -1,13 +1,13 @@
 -- What starts at a place, by the bytes that stand there: one case for each kind of item, and one for none.
 use mathlib.Core.Path.{_≡_, refl, ap, ap₂, sym, _∙_}
-use mathlib.Core.Bool.{Bool, true, false, _||_, _&&_}
+use mathlib.Core.Bool.{Bool, true, false, _||_, _&&_, not}
 use mathlib.Core.List.{List, [], _∷_}
-use mathlib.Core.Logic.{_⊎_, inl, inr}
+use mathlib.Core.Logic.{_⊎_, ⊎-elim, inl, inr}
 use mathlib.Core.Option.{Option, none, some}
 use Prim.Native.Nat.{ℕ, _+_, _≤_, _<_}
 use native.Mathlib.Omega.{arith}
-use borrow.Author.Tests.{eqb-true, eqb-false, eq-eqb, ne-eqb}
-use lib.Dec.{eqb}
+use borrow.Author.Tests.{eqb-true, eqb-false, eq-eqb, ne-eqb, ltb-true, not-true}
+use lib.Dec.{eqb, ltb}
 use lib.ListN.{length, getD, drop}
 use lib.Seq.{drop-drop}
 use Rattle.reading.specs.Byte.{is, blank, begins, run, given, comment}
@@ -23,6 +23,10 @@ use Rattle.trivia.specs.Piece.{close-of, closed, item-of, summary-of, it
 use Rattle.trivia.specs.declared.Close.{Close}
 use Rattle.trivia.specs.declared.Close.the-variants.{At, Open}
 use Rattle.trivia.specs.declared.Piece.the-variants.{Item, No}
+
+both : (a b : Bool) → a && b ≡ true → (a ≡ true) × (b ≡ true)
+both true b e = (refl, e)
+both false b e = absurd (let z : _≡_ {A = ℕ} 0 1 = cc in let y : ⊥ = omega arith in y)
 
 abbrev Scanned : List ℕ → ℕ → Parser → Summary Rows → Type 0
 Scanned s i g o = (τ : Rule → Scan Rows) (l : ℕ) → scan τ g l (here s i) ≡ o
@@ -204,6 +208,13 @@ module _ (s : List ℕ) (i : ℕ) (h : i < length s) where
   starts-other a b c d =
       plain-none (ap₂ _||_ (ne-eqb (getD s i 0) 32 λ e. a (inr e)) (ne-eqb (getD s i 0) 9 λ e. a (inl e))) (ne-eqb 47 (getD s i 0) λ e. d (sym e))
       (feed-no s i (byte-at 13 false (ne-eqb (getD s i 0) 13 c)) (byte-at 10 false (ne-eqb (getD s i 0) 10 b)))
+
+  -- a byte above the space that is no slash
+  pub starts-plain : ltb 32 (getD s i 0) && not (eqb (getD s i 0) 47) ≡ true → Starts s i No
+  starts-plain e =
+      let z = both (ltb 32 (getD s i 0)) (not (eqb (getD s i 0) 47)) e in
+      let above : 32 < getD s i 0 = ltb-true 32 (getD s i 0) (z .0) in
+      starts-other (⊎-elim (λ q. omega (arith, q, above)) (λ q. omega (arith, q, above))) (λ q. omega (arith, q, above)) (λ q. omega (arith, q, above)) (eqb-false (getD s i 0) 47 (not-true (eqb (getD s i 0) 47) (z .1)))
 
   -- a slash
   module _ (q : getD s i 0 ≡ 47) where

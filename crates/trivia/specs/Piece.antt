@@ -1,11 +1,11 @@
 -- What starts at a place: the end of a block comment, and one item of trivia.
-use mathlib.Core.Bool.{Bool, true, false, cond}
+use mathlib.Core.Bool.{Bool, true, false, cond, _&&_}
 use mathlib.Core.List.{List, []}
 use mathlib.Core.Option.{Option, none, some}
 use mathlib.Core.Path.{_≡_}
 use Prim.Native.Nat.{ℕ, _+_, _≤_, _<_}
 use lib.Dec.{eqb}
-use lib.ListN.{length, drop}
+use lib.ListN.{length, drop, getD}
 use Rattle.reading.specs.Byte.{comment}
 use Rattle.reading.specs.Grammar.{Rows, Input, Rule, Parser, _or_}
 use Rattle.reading.specs.Rules.{trivia-impl, new-line, trivia, multiline-trivia}
@@ -24,6 +24,10 @@ close-of at (some n) = At (record { 0 = at + n })
 -- c_comment behind its mark
 unfoldable pub closed : List ℕ → ℕ → Close
 closed s at = close-of at (comment 0 0 (drop at s))
+
+-- no closing mark starts from a on, before z
+pub record Unmarked (s : List ℕ) (a z : ℕ) : Type 0 where
+  pub plain : (i : ℕ) → a ≤ i → i < z → eqb (getD s i 0) 42 && eqb (getD s (i + 1) 0) 47 ≡ false
 
 -- a piece, as `item` gives it
 unfoldable pub item-of : List ℕ → Piece → Option (ℕ × Input)
@@ -60,3 +64,6 @@ pub record Starts (s : List ℕ) (at : ℕ) (r : Piece) : Type 0 where
   pub listed : item (here s at) ≡ item-of s r
   pub scanned : (lines : Bool) (τ : Rule → Scan Rows) (l : ℕ) → scan τ (item-for lines) l (here s at) ≡ summary-of s (kept lines r)
   pub bounded : Bounded s at r
+
+abbrev pub Nothing : List ℕ → ℕ → Type 0
+Nothing s at = Starts s at No

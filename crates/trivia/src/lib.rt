@@ -4,6 +4,7 @@ use cursor::Skip;
 use reading::MAX_TEXT;
 use table::Pos;
 ghost use mathlib.Core.Path.{_≡_};
+ghost use mathlib.Core.Bool.{true, false};
 ghost use mathlib.Core.List.{[], _∷_};
 ghost use Prim.Native.Nat.{_+_, _≤_, _<_};
 ghost use lib.ListN.{length, drop, getD};
@@ -14,7 +15,7 @@ ghost use Rattle.reading.specs.Items.{trivia-items};
 ghost use Rattle.cursor.specs.Text.{Skips};
 ghost use Rattle.trivia.specs.Answers.{told, listed, high-of, Lists};
 ghost use Rattle.trivia.specs.Class.{bit, member};
-ghost use Rattle.trivia.specs.Piece.{closed, Starts, trivia-of};
+ghost use Rattle.trivia.specs.Piece.{closed, Unmarked, Starts, Nothing, trivia-of};
 
 pub mod class;
 pub mod kind;
@@ -57,8 +58,60 @@ pub enum Close {
     Open,
 }
 
-// The end of the block comment whose mark stands right before `at`. Comments nest, and no byte belongs to two marks.
-pub fn c_comment(s: &[u8], at: Pos) -> Close
+// How many bytes are looked at together.
+const BLOCK: usize = 64;
+
+// A closing mark starts in the block from here on. Every byte is looked at, so that the compiler compares many at once.
+fn block_closes(s: &[u8], at: usize) -> bool
+    requires { ⌜ at + 64 < length (now s) ⌝ }
+    ensures { λ r. ⌜ (r ≡ false → Unmarked (now (s .entry)) at (at + 64)) ⌝ }
+{
+    let mut found = false;
+    let mut j: usize = 0;
+    while j < BLOCK {
+        found = found | ((s[at + j] == b'*') & (s[at + j + 1] == b'/'));
+        j += 1;
+    }
+    found
+}
+
+// The end of the blocks from here on in which no closing mark starts.
+fn blocks_end(s: &[u8], at: usize) -> usize
+    ensures { λ r. ⌜ Unmarked (now (s .entry)) at r ⌝ }
+{
+    let mut i = at;
+    while i < s.len() {
+        if s.len() - i <= BLOCK {
+            return i;
+        }
+        if block_closes(s, i) {
+            return i;
+        }
+        i += BLOCK;
+    }
+    i
+}
+
+// A closing mark starts from here on.
+fn closes(s: &[u8], at: usize) -> bool
+    ensures { λ r. ⌜ (r ≡ false → Unmarked (now (s .entry)) at (length (now (s .entry)))) ⌝ }
+{
+    let mut i = blocks_end(s, at);
+    while i < s.len() {
+        let next = i + 1;
+        if s.len() <= next {
+            return false;
+        }
+        if (s[i] == b'*') & (s[next] == b'/') {
+            return true;
+        }
+        i = next;
+    }
+    false
+}
+
+// The end of the block comment, mark by mark. Comments nest, and no byte belongs to two marks.
+fn marks_end(s: &[u8], at: Pos) -> Close
     ensures { λ r. ⌜ r ≡ closed (now (s .entry)) (at .0) ⌝ }
 {
     let mut i = at.0;
@@ -89,6 +142,16 @@ pub fn c_comment(s: &[u8], at: Pos) -> Close
         }
     };
     end
+}
+
+// The end of the block comment whose mark stands right before `at`. One that nothing closes is found open at once.
+pub fn c_comment(s: &[u8], at: Pos) -> Close
+    ensures { λ r. ⌜ r ≡ closed (now (s .entry)) (at .0) ⌝ }
+{
+    if closes(s, at.0) {
+        return marks_end(s, at);
+    }
+    Close::Open
 }
 
 // The byte stands here.
@@ -159,7 +222,7 @@ fn blanks_end(s: &[u8], at: Pos) -> Pos
     run_end(s, at, class::BLANK)
 }
 
-// What starts here. Most bytes start nothing, and are answered at once.
+// What starts here. Most bytes stand above the space and start nothing; they are answered first.
 pub fn trivia_item(s: &[u8], at: Pos) -> Piece
     ensures { λ r. ⌜ Starts (now (s .entry)) (at .0) r ⌝ }
 {
@@ -168,6 +231,12 @@ pub fn trivia_item(s: &[u8], at: Pos) -> Piece
         return Piece::No;
     }
     let b = s[low];
+    if b' ' < b {
+        if b == b'/' {
+            return comment_item(s, at);
+        }
+        return Piece::No;
+    }
     match b {
         b'\t' | b' ' => {
             let end = blanks_end(s, Pos(low + 1));
@@ -181,7 +250,6 @@ pub fn trivia_item(s: &[u8], at: Pos) -> Piece
                 Piece::No
             }
         }
-        b'/' => comment_item(s, at),
         _ => Piece::No,
     }
 }
@@ -206,11 +274,25 @@ fn skip(s: &[u8], at: Pos, met: bool, lines: bool) -> Skip
     }
 }
 
+// Nothing starts here, as most often: a byte above the space that is no slash tells so.
+fn bare(s: &[u8], at: Pos) -> bool
+    ensures { λ r. ⌜ (r ≡ true → Nothing (now (s .entry)) (at .0)) ⌝ }
+{
+    let i = at.0;
+    if s.len() <= i {
+        return false;
+    }
+    (b' ' < s[i]) & (s[i] != b'/')
+}
+
 // Trivia of one line, as ws reads it; `met` is that an open comment was met before.
 pub fn trivia(s: &[u8], at: Pos, met: bool) -> Skip
     requires { ⌜ at .0 ≤ length (now s) ⌝ }
     ensures { λ r. ⌜ Skips trivia (now (s .entry)) (at .0) met r ⌝ }
 {
+    if bare(s, at) {
+        return Skip { at, met };
+    }
     skip(s, at, met, false)
 }
 
@@ -219,6 +301,9 @@ pub fn multiline_trivia(s: &[u8], at: Pos, met: bool) -> Skip
     requires { ⌜ at .0 ≤ length (now s) ⌝ }
     ensures { λ r. ⌜ Skips multiline-trivia (now (s .entry)) (at .0) met r ⌝ }
 {
+    if bare(s, at) {
+        return Skip { at, met };
+    }
     skip(s, at, met, true)
 }
 
