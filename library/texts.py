@@ -2,8 +2,8 @@
 """texts.py SEED COUNT: COUNT random texts, a case a line, as `oracle --batch` takes them: HEX, or SCOPE FLAG<tab>HEX.
 
 The mix: texts made by the grammar, such texts damaged (bytes deleted, doubled, swapped, changed, put in; cut off; a span lost; lines
-swapped; a comment or a string opened), pieces of the language in no order, bytes in no order, and deep nesting. One in eight has a starting
-state. The same seed gives the same texts.
+swapped; a comment or a string opened), pieces of the language in no order, bytes in no order, deep nesting, and a few long texts. One in
+eight has a starting state. The same seed gives the same texts.
 """
 import random
 import sys
@@ -478,7 +478,19 @@ def nested(rng):
     return head + opening * depth + inner + closing * closed
 
 
+def long(rng):
+    """Many lines, of texts that close what they open, and a last one that may not."""
+    lines = []
+    for _ in range(rng.randrange(20, 400)):
+        line = Grammar(rng).text().encode()
+        if line.count(b"(") == line.count(b")") and line.count(b"{") == line.count(b"}"):
+            lines.append(line)
+    return b"\n".join(lines + [damaged(rng, Grammar(rng).text().encode())])
+
+
 def text(rng):
+    if rng.randrange(800) == 0:
+        return long(rng)
     kind = rng.randrange(20)
     if kind == 0:
         return bytes(rng.choice(BYTES) for _ in range(rng.randrange(24)))
@@ -496,11 +508,10 @@ def state(rng):
     return "%d %d\t" % (rng.choice((0, 1, 7, 41, 999, rng.randrange(5000))), rng.randrange(2))
 
 
-def main():
-    seed, count = int(sys.argv[1]), int(sys.argv[2])
+def cases(seed, count):
     rng = random.Random(seed)
-    for _ in range(count):
-        print(state(rng) + text(rng).hex())
+    return [state(rng) + text(rng).hex() for _ in range(count)]
 
 
-main()
+if __name__ == "__main__":
+    print("\n".join(cases(int(sys.argv[1]), int(sys.argv[2]))))

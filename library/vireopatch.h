@@ -1,24 +1,25 @@
 /*
  * Vireopatch: reads MOS assembly source into flat tables.
  *
- * C99. Link libvireopatch.a (`rt staticlib vireopatch`); nothing else is needed. The functions are written in Rattle and proved to give
- * what this file says; crates/vireopatch has their contracts. This file itself is not checked against them.
+ * C99. Link libvireopatch.a, which `rt staticlib vireopatch` writes; it wants memset and nothing else. The functions are written in Rattle, and
+ * each is proved to meet its contract (crates/vireopatch/src/lib.rt). Nothing checks this file against the contracts.
  *
  * Of every call
  *
- * A call returns 0 for an answer, or the number of a refusal (VIREOPATCH_..), and sets every number behind its pointers, refused or not.
+ * Result. A call returns 0 for an answer, or the number of a refusal (VIREOPATCH_TOO_LONG and so on). It sets every number behind its
+ * pointers, refused or not; what stood there before is not read.
  *
- * Pointers. None may be null, not even one whose length is 0: it then points at any object, aligned for its type. A table is read and
- * written at its first LEN words of 4 bytes, a text is read at its first LEN bytes, and nothing is touched beyond them. Tables and numbers
- * need the alignment of their C type. What a call writes (tables and numbers) may not overlap anything else that is handed to the same call.
- * No pointer is kept after the call.
+ * Pointers. None may be null, not even one whose length is 0: that one need only be aligned. A text is read at its first LEN bytes, a table is
+ * read and written at its first LEN words of 4 bytes, and nothing else is touched. Tables and numbers have the alignment of their C type. What a
+ * call writes (tables, numbers) may not overlap anything else that is handed to the same call. No pointer is kept. A length in bytes is at
+ * most PTRDIFF_MAX.
  *
- * A `bool` is C's _Bool, of one byte, 0 or 1.
+ * A bool is C's _Bool: one byte, 0 or 1.
  *
- * Threads. There is no global state, no allocation and no input or output. Any number of threads may call at once, each with memory of its
- * own; a text that none of them writes may be shared.
+ * Threads. There is no global state, no allocation, no input or output. Any number of threads may call at once, each with tables of its own;
+ * they may share a text that nobody writes.
  *
- * Time grows with the text, not with its nesting; stack use is bounded, since the level limit is at most 64 (library/README.md has numbers).
+ * Stack. The level limit is at most 64, which bounds the recursion. library/README.md has measurements.
  */
 #ifndef VIREOPATCH_H
 #define VIREOPATCH_H
@@ -94,8 +95,8 @@ enum {
 };
 
 /*
- * Words that are enough for every text of N bytes: it has at most 4N + 1 rows, N + 1 errors, N requests and N items. N is at most
- * VIREOPATCH_MAX_TEXT in a call that is answered; rows of a real text are fewer, and a refusal names the need.
+ * Words that are enough for every text of N bytes: it has at most 4N + 1 rows, N + 1 errors and N requests, and a run of N bytes at most N
+ * items. Real texts have fewer rows; a refusal names the need.
  */
 #define VIREOPATCH_ROWS_ENOUGH(n)     (((size_t)4 * (n) + 1) * VIREOPATCH_ROW_WORDS)
 #define VIREOPATCH_ERRORS_ENOUGH(n)   (((size_t)(n) + 1) * VIREOPATCH_ERROR_WORDS)

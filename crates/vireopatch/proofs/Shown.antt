@@ -1,15 +1,14 @@
 -- What a call's answer is in numbers is what its definition exports: one law for each call, case by case.
-use mathlib.Core.Bool.{Bool, cond}
+use mathlib.Core.Bool.{Bool}
 use mathlib.Core.List.{List}
-use mathlib.Core.Option.{Option, none, some}
+use mathlib.Core.Option.{Option, none}
 use mathlib.Core.Path.{_≡_, refl, ap, sym, _∙_}
 use Prim.Native.Nat.{ℕ}
-use lib.Dec.{eqb}
 use borrow.Author.Tests.{ne-eqb}
 use Rattle.reading.specs.Table.{Answer as Answered}
 use Rattle.reading.specs.Outcome.{Call, Outcome, outcome}
 use Rattle.reading.specs.Items.{Listed}
-use Rattle.reading.specs.Number.{Base, hexadecimal, decimal, binary, number-value}
+use Rattle.reading.specs.Number.{Base, number-value}
 use Rattle.reading.specs.Walk.{Subtree}
 use Rattle.parser.specs.Answers.{told, end-scope, end-swallow, Meets}
 use Rattle.parser.specs.declared.Answer.{Answer}
@@ -24,7 +23,7 @@ use Rattle.trivia.specs.declared.ItemsAnswer.the-variants.{Count, TooLong as to
 use Rattle.table.specs.Answers.{told as walk-told}
 use Rattle.table.specs.declared.Walked.{Walked}
 use Rattle.table.specs.declared.Walked.the-variants.{Subtree as subtree, NoSubtree}
-use Rattle.vireopatch.specs.Seen.{Seen, seen, exported, base-numbered, value-in, SeenValue, seen-value, exported-value, SeenItems, seen-items, exported-items, SeenWalk, seen-walk, exported-walk}
+use Rattle.vireopatch.specs.Seen.{Seen, seen, exported, base-numbered, value-in, seen-value, exported-value, SeenItems, seen-items, exported-items, SeenWalk, seen-walk, exported-walk}
 use Rattle.vireopatch.specs.Numbers.{numbered, base-told, numbered-value, numbered-items, numbered-walk}
 use Rattle.vireopatch.specs.declared.ReadNumbers.{ReadNumbers}
 use Rattle.vireopatch.specs.declared.ValueNumbers.{ValueNumbers}

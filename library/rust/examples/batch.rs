@@ -15,11 +15,22 @@ fn put_records(out: &mut String, words: &[u32], count: usize, width: usize) {
 
 /// The listing of a text, LF replaced by `|`; or `! ` and the refusal.
 fn listing(text: &[u8], start: State) -> String {
-    let n = if text.len() <= MAX_TEXT { text.len() } else { 0 };
+    let n = if text.len() <= MAX_TEXT {
+        text.len()
+    } else {
+        0
+    };
     let mut rows = vec![1; enough::row_words(n)];
     let mut errors = vec![1; enough::error_words(n)];
     let mut requests = vec![1; enough::request_words(n)];
-    let reading = match read(text, start, MAX_LEVEL, &mut rows, &mut errors, &mut requests) {
+    let reading = match read(
+        text,
+        start,
+        MAX_LEVEL,
+        &mut rows,
+        &mut errors,
+        &mut requests,
+    ) {
         Ok(reading) => reading,
         Err(refusal) => {
             let (number, given) = refusal.numbers();
@@ -32,7 +43,12 @@ fn listing(text: &[u8], start: State) -> String {
     put_records(&mut out, &errors, reading.errors, ERROR);
     out.push_str("request low high|");
     put_records(&mut out, &requests, reading.requests, REQUEST);
-    write!(out, "scope swallow|{} {}|", reading.end.scope, reading.end.swallow as u32).unwrap();
+    write!(
+        out,
+        "scope swallow|{} {}|",
+        reading.end.scope, reading.end.swallow as u32
+    )
+    .unwrap();
     out
 }
 

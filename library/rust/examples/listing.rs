@@ -29,11 +29,22 @@ fn main() {
         exit(2)
     });
     // A longer text is refused before anything is written.
-    let n = if text.len() <= MAX_TEXT { text.len() } else { 0 };
+    let n = if text.len() <= MAX_TEXT {
+        text.len()
+    } else {
+        0
+    };
     let mut rows = vec![0; enough::row_words(n)];
     let mut errors = vec![0; enough::error_words(n)];
     let mut requests = vec![0; enough::request_words(n)];
-    match read(&text, State::default(), MAX_LEVEL, &mut rows, &mut errors, &mut requests) {
+    match read(
+        &text,
+        State::default(),
+        MAX_LEVEL,
+        &mut rows,
+        &mut errors,
+        &mut requests,
+    ) {
         Ok(reading) => {
             println!("kind size tlow low high detail");
             print_records(&rows, reading.rows, ROW);

@@ -248,7 +248,8 @@ pub fn read(
 pub fn value(number_type: NumberType, text: &[u8]) -> Result<u64, Refusal> {
     let mut value = 0;
     // SAFETY: as in `read`.
-    let code = unsafe { vireopatch_value(number_type as u32, text.as_ptr(), text.len(), &mut value) };
+    let code =
+        unsafe { vireopatch_value(number_type as u32, text.as_ptr(), text.len(), &mut value) };
     match code {
         0 => Ok(value),
         _ => Err(Refusal::of(code, 0)),
@@ -319,7 +320,8 @@ extern "C" {
         given: *mut usize,
     ) -> u32;
 
-    fn vireopatch_value(number_type: u32, text: *const u8, text_len: usize, value: *mut u64) -> u32;
+    fn vireopatch_value(number_type: u32, text: *const u8, text_len: usize, value: *mut u64)
+        -> u32;
 
     fn vireopatch_items(
         text: *const u8,
@@ -338,4 +340,19 @@ extern "C" {
         before: *mut usize,
         given: *mut usize,
     ) -> u32;
+}
+
+#[cfg(test)]
+mod tests {
+    /// The enum keeps this refusal out of the safe function.
+    #[test]
+    fn no_such_type() {
+        for number_type in [0, 4, u32::MAX] {
+            let mut value = 7;
+            // SAFETY: as in `read`.
+            let code =
+                unsafe { super::vireopatch_value(number_type, b"1".as_ptr(), 1, &mut value) };
+            assert_eq!((code, value), (100, 0));
+        }
+    }
 }

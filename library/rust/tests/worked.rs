@@ -1,8 +1,8 @@
 //! Document 01's worked texts, and its refusals.
 
 use vireopatch::{
-    detail, enough, item, items, kind, read, value, walk, NumberType, Reading, Refusal, State, Subtree, ERROR, ITEM, MAX_LEVEL, REQUEST,
-    ROW,
+    detail, enough, item, items, kind, read, value, walk, NumberType, Reading, Refusal, State,
+    Subtree, ERROR, ITEM, MAX_LEVEL, REQUEST, ROW,
 };
 
 struct Tables {
@@ -13,8 +13,15 @@ struct Tables {
 }
 
 fn records<const N: usize>(words: &[u32], count: usize) -> Vec<[u32; N]> {
-    assert!(words[count * N..].iter().all(|w| *w == 0), "words past the last record are zero");
-    words.chunks_exact(N).take(count).map(|r| r.try_into().unwrap()).collect()
+    assert!(
+        words[count * N..].iter().all(|w| *w == 0),
+        "words past the last record are zero"
+    );
+    words
+        .chunks_exact(N)
+        .take(count)
+        .map(|r| r.try_into().unwrap())
+        .collect()
 }
 
 fn tables_from(text: &str, start: State) -> Tables {
@@ -22,7 +29,15 @@ fn tables_from(text: &str, start: State) -> Tables {
     let mut rows = vec![7; enough::row_words(n)];
     let mut errors = vec![7; enough::error_words(n)];
     let mut requests = vec![7; enough::request_words(n)];
-    let r = read(text.as_bytes(), start, MAX_LEVEL, &mut rows, &mut errors, &mut requests).unwrap();
+    let r = read(
+        text.as_bytes(),
+        start,
+        MAX_LEVEL,
+        &mut rows,
+        &mut errors,
+        &mut requests,
+    )
+    .unwrap();
     Tables {
         rows: records(&rows, r.rows),
         errors: records(&errors, r.errors),
@@ -36,7 +51,12 @@ fn tables(text: &str) -> Tables {
 }
 
 /// A call in room for so many records of each kind.
-fn in_room(text: &[u8], start: State, level: usize, room: [usize; 3]) -> (Result<Reading, Refusal>, [Vec<u32>; 3]) {
+fn in_room(
+    text: &[u8],
+    start: State,
+    level: usize,
+    room: [usize; 3],
+) -> (Result<Reading, Refusal>, [Vec<u32>; 3]) {
     let mut rows = vec![7; room[0] * ROW];
     let mut errors = vec![7; room[1] * ERROR];
     let mut requests = vec![7; room[2] * REQUEST];
@@ -117,7 +137,10 @@ fn comments() {
 
 #[test]
 fn operands() {
-    assert_eq!(top(&tables("asl\nrow(1)")), [(kind::INSTRUCTION, 0, 10), (kind::EOF, 10, 10)]);
+    assert_eq!(
+        top(&tables("asl\nrow(1)")),
+        [(kind::INSTRUCTION, 0, 10), (kind::EOF, 10, 10)]
+    );
     let t = tables("lda (1)+2");
     assert_eq!(of_kind(&t, kind::OPERAND)[0][3..5], [4, 7]);
     assert_eq!(t.errors, [[2, 7, 9]]);
@@ -127,7 +150,14 @@ fn operands() {
     let t = tables("lda -(3)");
     assert_eq!(of_kind(&t, kind::OPERAND)[0][3..5], [4, 5]);
     assert_eq!(t.errors, [[2, 5, 7]]);
-    assert_eq!(top(&t), [(kind::INSTRUCTION, 0, 5), (kind::ERROR, 5, 7), (kind::EOF, 7, 8)]);
+    assert_eq!(
+        top(&t),
+        [
+            (kind::INSTRUCTION, 0, 5),
+            (kind::ERROR, 5, 7),
+            (kind::EOF, 7, 8)
+        ]
+    );
 }
 
 #[test]
@@ -153,7 +183,10 @@ fn start_states() {
 #[test]
 fn refusals_that_leave_the_tables() {
     let start = State::default();
-    let large = State { scope: 1_000_001, swallow: false };
+    let large = State {
+        scope: 1_000_001,
+        swallow: false,
+    };
     let long = vec![b' '; 65_537];
     let cases = [
         in_room(&long, start, 64, [9, 9, 9]),
@@ -175,12 +208,27 @@ fn refusals_that_leave_the_tables() {
 
 #[test]
 fn refusals_that_zero_the_tables() {
-    let start = State { scope: 7, swallow: false };
+    let start = State {
+        scope: 7,
+        swallow: false,
+    };
     let cases = [
-        (in_room(b"lda (1)", start, 0, [99, 9, 9]), Refusal::TooDeep(0)),
-        (in_room(b"lda 1", start, 64, [7, 9, 9]), Refusal::NoRoomForRows(8)),
-        (in_room(b"{/* abc", start, 64, [99, 1, 9]), Refusal::NoRoomForErrors(2)),
-        (in_room(b".import * from \"a\"", start, 64, [99, 9, 0]), Refusal::NoRoomForRequests(1)),
+        (
+            in_room(b"lda (1)", start, 0, [99, 9, 9]),
+            Refusal::TooDeep(0),
+        ),
+        (
+            in_room(b"lda 1", start, 64, [7, 9, 9]),
+            Refusal::NoRoomForRows(8),
+        ),
+        (
+            in_room(b"{/* abc", start, 64, [99, 1, 9]),
+            Refusal::NoRoomForErrors(2),
+        ),
+        (
+            in_room(b".import * from \"a\"", start, 64, [99, 9, 0]),
+            Refusal::NoRoomForRequests(1),
+        ),
     ];
     for ((answer, tables), refusal) in &cases {
         assert_eq!(*answer, Err(*refusal));
@@ -201,8 +249,14 @@ fn values() {
     assert_eq!(value(Dec, b"TRUE"), Err(Refusal::NotANumber));
     assert_eq!(value(Dec, b""), Err(Refusal::NotANumber));
     assert_eq!(value(Dec, b"+1"), Err(Refusal::NotANumber));
-    assert_eq!(value(Dec, b"9223372036854775807"), Ok(vireopatch::MAX_VALUE));
-    assert_eq!(value(Dec, b"9223372036854775808"), Err(Refusal::ValueTooLarge));
+    assert_eq!(
+        value(Dec, b"9223372036854775807"),
+        Ok(vireopatch::MAX_VALUE)
+    );
+    assert_eq!(
+        value(Dec, b"9223372036854775808"),
+        Err(Refusal::ValueTooLarge)
+    );
     let mut zeros = vec![b'0'; 65_535];
     zeros.push(b'1');
     assert_eq!(value(Hex, &zeros), Ok(1));

@@ -1,27 +1,22 @@
+-- Three numbers are types, and every other number is none.
 use mathlib.Core.Path.{ap, sym}
 use Rattle.vireopatch.specs.Seen.{base-numbered}
 use Rattle.vireopatch.proofs.Shown.{no-base}
 use Rattle.vireopatch.proofs.typed_of.Statement.{statement}
 use Rattle.vireopatch.proofs.typed_of.Tie as tie
-use Rattle.vireopatch.proofs.typed_of.Reads as reads
-use Rattle.vireopatch.proofs.typed_of.Lts as lts
 
--- src/lib.rt:101:1
 returns : tie.Need-returns
 unfolding base-numbered
 returns c = sym (ap base-numbered (c .match .keys1))
 
--- src/lib.rt:101:1
 returns-2 : tie.Need-returns-2
 unfolding base-numbered
 returns-2 c = sym (ap base-numbered (c .match .keys2))
 
--- src/lib.rt:101:1
 returns-3 : tie.Need-returns-3
 unfolding base-numbered
 returns-3 c = sym (ap base-numbered (c .match .keys3))
 
--- src/lib.rt:101:1
 returns-4 : tie.Need-returns-4
 returns-4 c = no-base _ (c .match .rest .0 .0 .1) (c .match .rest .0 .1) (c .match .rest .1)
 

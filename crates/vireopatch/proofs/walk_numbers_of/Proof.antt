@@ -1,24 +1,19 @@
+-- A case for each answer.
 use mathlib.Core.Path.{ap, sym}
-use Rattle.vireopatch.specs.Numbers.{numbered-walk}
 use borrow.Author.Needs.{needs}
+use Rattle.vireopatch.specs.Numbers.{numbered-walk}
 use Rattle.vireopatch.proofs.walk_numbers_of.Statement.{statement}
 use Rattle.vireopatch.proofs.walk_numbers_of.Tie as tie
-use Rattle.vireopatch.proofs.walk_numbers_of.Reads as reads
-use Rattle.vireopatch.proofs.walk_numbers_of.Lts as lts
 
--- src/lib.rt:189:25
 enum-known-walked : tie.Need-enum-known-walked
 enum-known-walked c = search needs
 
--- src/lib.rt:195:27
 enum-known-walked-2 : tie.Need-enum-known-walked-2
 enum-known-walked-2 c = search needs
 
--- src/lib.rt:185:1
 returns : tie.Need-returns
 returns c = sym (ap numbered-walk (c .before .walked .given .1))
 
--- src/lib.rt:185:1
 returns-2 : tie.Need-returns-2
 returns-2 c = sym (ap numbered-walk (c .before .walked2 .given .1))
 

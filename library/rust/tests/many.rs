@@ -1,0 +1,200 @@
+//! Random inputs, against plain Rust: numbers, trivia runs, and walks of the rows of a text.
+
+use vireopatch::{
+    enough, item, items, read, value, walk, NumberType, Refusal, State, ITEM, MAX_LEVEL, ROW,
+};
+
+/// SplitMix64.
+struct Rng(u64);
+
+impl Rng {
+    fn below(&mut self, n: usize) -> usize {
+        self.0 = self.0.wrapping_add(0x9e37_79b9_7f4a_7c15);
+        let mut z = self.0;
+        z = (z ^ (z >> 30)).wrapping_mul(0xbf58_476d_1ce4_e5b9);
+        z = (z ^ (z >> 27)).wrapping_mul(0x94d0_49bb_1331_11eb);
+        ((z ^ (z >> 31)) % n as u64) as usize
+    }
+
+    fn pieces(&mut self, of: &[&str], most: usize) -> String {
+        (0..self.below(most))
+            .map(|_| of[self.below(of.len())])
+            .collect()
+    }
+}
+
+/// Number::value of the Rust: the words, then from_str_radix. A sign is no digit here.
+fn rust_value(radix: u32, text: &str) -> Result<u64, Refusal> {
+    match text {
+        "true" => return Ok(1),
+        "false" => return Ok(0),
+        _ => (),
+    }
+    if text.is_empty() || !text.chars().all(|c| c.is_digit(radix)) {
+        return Err(Refusal::NotANumber);
+    }
+    match i64::from_str_radix(text, radix) {
+        Ok(v) => Ok(v as u64),
+        Err(_) => Err(Refusal::ValueTooLarge),
+    }
+}
+
+#[test]
+fn values() {
+    let types = [
+        (NumberType::Hex, 16),
+        (NumberType::Dec, 10),
+        (NumberType::Bin, 2),
+    ];
+    let pieces = [
+        "0",
+        "1",
+        "1",
+        "9",
+        "10",
+        "01",
+        "ff",
+        "A",
+        "f",
+        "7fffffff",
+        "922337203685477580",
+        "7",
+        "8",
+        "true",
+        "false",
+        "T",
+        "-",
+        "+",
+        "g",
+        " ",
+        "",
+    ];
+    let mut rng = Rng(1);
+    for _ in 0..100_000 {
+        let text = rng.pieces(&pieces, 8);
+        let (number_type, radix) = types[rng.below(3)];
+        assert_eq!(
+            value(number_type, text.as_bytes()),
+            rust_value(radix, &text),
+            "{text:?} in base {radix}"
+        );
+    }
+}
+
+/// The end of a block comment, behind its opening mark.
+fn comment_end(text: &[u8], mut at: usize) -> Option<usize> {
+    let mut open = 1;
+    while at + 1 < text.len() {
+        match &text[at..at + 2] {
+            b"/*" => open += 1,
+            b"*/" => open -= 1,
+            _ => {
+                at += 1;
+                continue;
+            }
+        }
+        at += 2;
+        if open == 0 {
+            return Some(at);
+        }
+    }
+    None
+}
+
+/// The item that starts here: its kind and its end.
+fn rust_item(text: &[u8], at: usize) -> Option<(u32, usize)> {
+    let rest = &text[at..];
+    let run = |skip: usize, class: fn(&u8) -> bool| {
+        at + skip + rest[skip..].iter().take_while(|b| class(b)).count()
+    };
+    match rest {
+        [b' ' | b'\t', ..] => Some((item::WHITESPACE, run(0, |b| matches!(b, b' ' | b'\t')))),
+        [b'\n', ..] => Some((item::NEWLINE, at + 1)),
+        [b'\r', b'\n', ..] => Some((item::NEWLINE, at + 2)),
+        [b'/', b'*', ..] => Some(match comment_end(text, at + 2) {
+            Some(end) => (item::BLOCK_COMMENT, end),
+            None => (item::UNTERMINATED, text.len()),
+        }),
+        [b'/', b'/', b, ..] if !matches!(b, b'\r' | b'\n') => {
+            Some((item::LINE_COMMENT, run(2, |b| !matches!(b, b'\r' | b'\n'))))
+        }
+        _ => None,
+    }
+}
+
+#[test]
+fn trivia_runs() {
+    let pieces = [
+        " ", "\t", "\n", "\r\n", "\r", "/*", "*/", "/", "*", "// a", "//", "/* a */", "/**/", "x",
+    ];
+    let mut rng = Rng(2);
+    let mut answered = 0;
+    for _ in 0..100_000 {
+        let text = rng.pieces(&pieces, 9).into_bytes();
+        let mut wanted: Vec<u32> = vec![];
+        let mut at = 0;
+        while let Some((kind, end)) = rust_item(&text, at) {
+            wanted.extend([kind, at as u32, end as u32]);
+            at = end;
+        }
+        let count = wanted.len() / ITEM;
+        let room = rng.below(count + 3);
+        let mut table = vec![7; room * ITEM + rng.below(ITEM)];
+        let before = table.clone();
+        let answer = items(&text, &mut table);
+        if at < text.len() {
+            assert_eq!(answer, Err(Refusal::NoItem(at)), "{text:?}");
+            assert_eq!(table, before);
+        } else if room < count {
+            assert_eq!(answer, Err(Refusal::NoRoomForItems(count)), "{text:?}");
+            assert!(table.iter().all(|w| *w == 0));
+        } else {
+            answered += 1;
+            wanted.resize(table.len(), 0);
+            assert_eq!(answer, Ok(count), "{text:?}");
+            assert_eq!(table, wanted, "{text:?}");
+        }
+    }
+    assert!(answered > 10_000, "{answered}");
+}
+
+/// Top rows cover the text; the trivia before each is one run of items.
+#[test]
+fn walks() {
+    let pieces = [
+        "lda ", "nop", "#", "1", "(", ")", "{", "}", "a", ":", ".byte ", ".if ", " ", "\n",
+        "/* a */", "//b\n", "\"", ",x", "=", "?",
+    ];
+    let mut rng = Rng(3);
+    for _ in 0..20_000 {
+        let text = rng.pieces(&pieces, 20).into_bytes();
+        let mut rows = vec![7; enough::row_words(text.len())];
+        let mut errors = vec![7; enough::error_words(text.len())];
+        let mut requests = vec![7; enough::request_words(text.len())];
+        let start = State::default();
+        let reading = read(
+            &text,
+            start,
+            MAX_LEVEL,
+            &mut rows,
+            &mut errors,
+            &mut requests,
+        )
+        .unwrap();
+        let (mut count, mut low) = (reading.rows, text.len());
+        while count > 0 {
+            let subtree = walk(&rows, count).unwrap();
+            let row = &rows[subtree.root * ROW..][..ROW];
+            assert_eq!(
+                (subtree.root, subtree.before),
+                (count - 1, count - row[1] as usize)
+            );
+            assert_eq!(row[4] as usize, low, "{text:?}");
+            let run = &text[row[2] as usize..row[3] as usize];
+            let mut table = vec![7; enough::item_words(run.len())];
+            assert!(items(run, &mut table).is_ok(), "{run:?}");
+            (count, low) = (subtree.before, row[2] as usize);
+        }
+        assert_eq!(low, 0, "{text:?}");
+    }
+}
