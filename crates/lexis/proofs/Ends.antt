@@ -5,7 +5,8 @@ use mathlib.Core.Option.{none, some}
 use mathlib.Core.Path.{_≡_, refl, ap, sym, subst, _∙_}
 use Prim.Native.Nat.{ℕ, _+_, _≤_, _<_}
 use native.Mathlib.Omega.{arith}
-use lib.Dec.{T}
+use borrow.Author.Tests.{ltb-true, ltb-false}
+use lib.Dec.{T, ltb}
 use lib.ListN.{length, getD, drop}
 use Rattle.reading.proofs.Cost.{cost, slim}
 use Rattle.reading.proofs.Tests.{quiet}
@@ -19,7 +20,9 @@ use Rattle.cursor.proofs.Places.{leaf-is, leaf-no, one-of-is, one-of-end, at-le
 use Rattle.cursor.specs.Agree.{full, Reading}
 use Rattle.cursor.specs.Text.{here, cursor}
 use Rattle.cursor.specs.declared.Read.the-variants.{Got}
+use Rattle.trivia.proofs.Names.{name-none, name-no, name-go}
 use Rattle.trivia.proofs.Pieces.{one-begins}
+use Rattle.trivia.specs.Class.{name-run}
 use Rattle.lexis.specs.Finds.{read-of, Finds}
 use Rattle.lexis.specs.declared.Found.{Found}
 use Rattle.lexis.specs.declared.Found.the-variants.{At, No}
@@ -118,3 +121,27 @@ module _ {m : Parser} {s : List ℕ} {i : ℕ} where
   pub end-in : T (quiet m) → T (slim m) → {p : Pos} → i ≤ length s → Finds m s i (At p) → Moved (cost m) s i 0 (cursor (p .0) 0 false)
   unfolding read-of
   end-in u w {p} h a = moved m u w (cursor (p .0) 0 false) h (a .reading 0 0 false 0 []) refl
+
+-- a byte of one class and a run of another
+module _ (f g : ℕ → Bool) (s : List ℕ) (i : ℕ) (p : Pos) (e : p .0 ≡ i + name-run f g (drop i s)) where
+  pub name-at : (p .0 ≡ i → ⊥) → Finds (leaf (one f) ▸ leaf (run0 g)) s i (At p)
+  name-at n = among (ltb i (length s)) refl
+    where
+      byte : (x : Bool) → f (getD s i 0) ≡ x → i < length s → Finds (leaf (one f) ▸ leaf (run0 g)) s i (At p)
+      byte true q h = seq-at (leaf (run0 g)) tt (one-at f s i h q (record { 0 = i + 1 }) refl) (run-at g s (i + 1) p (e ∙ name-go f g s i h q))
+      byte false q h = absurd (n (e ∙ name-no f g s i h q))
+
+      among : (x : Bool) → ltb i (length s) ≡ x → Finds (leaf (one f) ▸ leaf (run0 g)) s i (At p)
+      among true q = byte (f (getD s i 0)) refl (ltb-true i (length s) q)
+      among false q = absurd (n (e ∙ name-none f g s i (ltb-false i (length s) q)))
+
+  pub no-name : p .0 ≡ i → Finds (leaf (one f) ▸ leaf (run0 g)) s i No
+  no-name n = among (ltb i (length s)) refl
+    where
+      byte : (x : Bool) → f (getD s i 0) ≡ x → i < length s → Finds (leaf (one f) ▸ leaf (run0 g)) s i No
+      byte true q h = absurd (let z = sym n ∙ e ∙ name-go f g s i h q in let y : ⊥ = omega (arith, z) in y)
+      byte false q h = seq-no (leaf (run0 g)) (one-no f s i h q)
+
+      among : (x : Bool) → ltb i (length s) ≡ x → Finds (leaf (one f) ▸ leaf (run0 g)) s i No
+      among true q = byte (f (getD s i 0)) refl (ltb-true i (length s) q)
+      among false q = seq-no (leaf (run0 g)) (one-end f s i (ltb-false i (length s) q))

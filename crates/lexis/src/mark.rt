@@ -45,14 +45,11 @@ pub fn name_end(s: &[u8], at: Pos, start: u32, class: u32) -> Found
     requires { ⌜ (start < 16) × (class < 16) ⌝ }
     ensures { λ r. ⌜ Finds (leaf (one (member start)) ▸ leaf (run0 (member class))) (now (s .entry)) (at .0) r ⌝ }
 {
-    let i = at.0;
-    if s.len() <= i {
+    let e = trivia::name_end(s, at, start, class);
+    if e.0 == at.0 {
         return Found::No;
     }
-    if !trivia::is(s[i], start) {
-        return Found::No;
-    }
-    Found::At(trivia::run_end(s, Pos(i + 1), class))
+    Found::At(e)
 }
 
 // The same with its row: a name, a config key.

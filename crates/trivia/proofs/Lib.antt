@@ -1,6 +1,7 @@
 pub mod Table
 pub mod Marks
-pub mod Unmarked
+pub mod Clear
+pub mod Names
 pub mod Pieces
 pub mod Walk
 pub mod Highs

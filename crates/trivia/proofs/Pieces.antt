@@ -155,9 +155,6 @@ one-begins c (b ∷ t) = go (eqb c b) refl
     go true e = ap (λ y. given y 1) (eq-eqb b c (sym (eqb-true c b e)))
     go false e = ap (λ y. given y 1) (ne-eqb b c λ q. eqb-false c b e (sym q))
 
-pub no-blank-above : (x : ℕ) → 32 < x → blank x ≡ false
-no-blank-above x h = ap₂ _||_ (ne-eqb x 32 (λ e. omega arith)) (ne-eqb x 9 (λ e. omega arith))
-
 -- by the first byte
 module _ (s : List ℕ) (i : ℕ) (h : i < length s) where
   no-blank : blank (getD s i 0) ≡ false → run blank (drop i s) ≡ 0

@@ -6,7 +6,7 @@ use mathlib.Core.Path.{_≡_}
 use Prim.Native.Nat.{ℕ, _+_, _≤_, _<_}
 use lib.Dec.{eqb}
 use lib.ListN.{length, drop, getD}
-use Rattle.reading.specs.Byte.{comment}
+use Rattle.reading.specs.Byte.{comment, line-end}
 use Rattle.reading.specs.Grammar.{Rows, Input, Rule, Parser, _or_}
 use Rattle.reading.specs.Rules.{trivia-impl, new-line, trivia, multiline-trivia}
 use Rattle.reading.specs.Summary.{Summary, fits, fails, Scan, scan}
@@ -25,9 +25,16 @@ close-of at (some n) = At (record { 0 = at + n })
 unfoldable pub closed : List ℕ → ℕ → Close
 closed s at = close-of at (comment 0 0 (drop at s))
 
--- no closing mark starts from a on, before z
-pub record Unmarked (s : List ℕ) (a z : ℕ) : Type 0 where
-  pub plain : (i : ℕ) → a ≤ i → i < z → eqb (getD s i 0) 42 && eqb (getD s (i + 1) 0) 47 ≡ false
+-- a closing mark starts at a place; a line ends there
+abbrev pub closes-at : List ℕ → ℕ → Bool
+closes-at s i = eqb (getD s i 0) 42 && eqb (getD s (i + 1) 0) 47
+
+abbrev pub ends-at : List ℕ → ℕ → Bool
+ends-at s i = line-end (getD s i 0)
+
+-- no place from a on, before z, passes the test
+pub record Clear (f : ℕ → Bool) (a z : ℕ) : Type 0 where
+  pub plain : (i : ℕ) → a ≤ i → i < z → f i ≡ false
 
 -- a piece, as `item` gives it
 unfoldable pub item-of : List ℕ → Piece → Option (ℕ × Input)

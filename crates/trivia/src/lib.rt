@@ -6,6 +6,7 @@ use table::Pos;
 ghost use mathlib.Core.Path.{_≡_};
 ghost use mathlib.Core.Bool.{true, false};
 ghost use mathlib.Core.List.{[], _∷_};
+ghost use mathlib.Core.Option.{none};
 ghost use Prim.Native.Nat.{_+_, _≤_, _<_};
 ghost use lib.ListN.{length, drop, getD};
 ghost use Rattle.reading.specs.Byte.{blank, run, begins};
@@ -14,8 +15,8 @@ ghost use Rattle.reading.specs.Table.{first-high};
 ghost use Rattle.reading.specs.Items.{trivia-items};
 ghost use Rattle.cursor.specs.Text.{Skips};
 ghost use Rattle.trivia.specs.Answers.{told, listed, high-of, Lists};
-ghost use Rattle.trivia.specs.Class.{bit, member};
-ghost use Rattle.trivia.specs.Piece.{closed, Unmarked, Starts, Nothing, trivia-of};
+ghost use Rattle.trivia.specs.Class.{bit, member, name-run};
+ghost use Rattle.trivia.specs.Piece.{closed, closes-at, ends-at, Clear, Starts, Nothing, trivia-of};
 
 pub mod class;
 pub mod kind;
@@ -26,14 +27,6 @@ fn has(mask: u16, class: u32) -> bool
     ensures { λ r. ⌜ r ≡ bit mask class ⌝ }
 {
     (mask >> class) % 2 == 1
-}
-
-// The byte is of the class.
-pub fn is(b: u8, class: u32) -> bool
-    requires { ⌜ class < 16 ⌝ }
-    ensures { λ r. ⌜ r ≡ member class b ⌝ }
-{
-    has(CLASS[b as usize], class)
 }
 
 // The end of the run of the class that starts here. The table is set up once, not for each byte.
@@ -52,19 +45,44 @@ pub fn run_end(s: &[u8], at: Pos, class: u32) -> Pos
     Pos(i)
 }
 
+// The end of what starts here with a byte of the first class and goes on with bytes of the second; `at` where nothing does.
+pub fn name_end(s: &[u8], at: Pos, start: u32, class: u32) -> Pos
+    requires { ⌜ (start < 16) × (class < 16) ⌝ }
+    ensures { λ r. ⌜ r .0 ≡ at .0 + name-run (member start) (member class) (drop (at .0) (now (s .entry))) ⌝ }
+{
+    let masks = CLASS;
+    let mut i = at.0;
+    if s.len() <= i {
+        return at;
+    }
+    if !has(masks[s[i] as usize], start) {
+        return at;
+    }
+    i += 1;
+    while i < s.len() {
+        if !has(masks[s[i] as usize], class) {
+            return Pos(i);
+        }
+        i += 1;
+    }
+    Pos(i)
+}
+
 // Where a comment ends, or that the text ends first.
 pub enum Close {
     At(Pos),
     Open,
 }
 
-// How many bytes are looked at together.
+// How many bytes are looked at together, of a text and of a line.
 const BLOCK: usize = 64;
+
+const SHORT: usize = 16;
 
 // A closing mark starts in the block from here on. Every byte is looked at, so that the compiler compares many at once.
 fn block_closes(s: &[u8], at: usize) -> bool
     requires { ⌜ at + 64 < length (now s) ⌝ }
-    ensures { λ r. ⌜ (r ≡ false → Unmarked (now (s .entry)) at (at + 64)) ⌝ }
+    ensures { λ r. ⌜ (r ≡ false → Clear (closes-at (now (s .entry))) at (at + 64)) ⌝ }
 {
     let mut found = false;
     let mut j: usize = 0;
@@ -77,7 +95,7 @@ fn block_closes(s: &[u8], at: usize) -> bool
 
 // The end of the blocks from here on in which no closing mark starts.
 fn blocks_end(s: &[u8], at: usize) -> usize
-    ensures { λ r. ⌜ Unmarked (now (s .entry)) at r ⌝ }
+    ensures { λ r. ⌜ Clear (closes-at (now (s .entry))) at r ⌝ }
 {
     let mut i = at;
     while i < s.len() {
@@ -94,7 +112,7 @@ fn blocks_end(s: &[u8], at: usize) -> usize
 
 // A closing mark starts from here on.
 fn closes(s: &[u8], at: usize) -> bool
-    ensures { λ r. ⌜ (r ≡ false → Unmarked (now (s .entry)) at (length (now (s .entry)))) ⌝ }
+    ensures { λ r. ⌜ (r ≡ false → Clear (closes-at (now (s .entry))) at (length (now (s .entry)))) ⌝ }
 {
     let mut i = blocks_end(s, at);
     while i < s.len() {
@@ -182,6 +200,53 @@ pub enum Piece {
     No,
 }
 
+// A line ends in the block from here on.
+fn line_ends(s: &[u8], at: usize) -> bool
+    requires { ⌜ at + 16 ≤ length (now s) ⌝ }
+    ensures { λ r. ⌜ (r ≡ false → Clear (ends-at (now (s .entry))) at (at + 16)) ⌝ }
+{
+    let mut found = false;
+    let mut j: usize = 0;
+    while j < SHORT {
+        let b = s[at + j];
+        found = found | ((b == b'\n') | (b == b'\r'));
+        j += 1;
+    }
+    found
+}
+
+// The end of the blocks from here on in which no line ends; the line goes on there.
+fn line_blocks(s: &[u8], at: usize) -> usize
+    ensures { λ r. ⌜ at + run (member 8) (drop at (now (s .entry))) ≡ r + run (member 8) (drop r (now (s .entry))) ⌝ }
+{
+    let mut i = at;
+    while i < s.len() {
+        if s.len() - i < SHORT {
+            return i;
+        }
+        if line_ends(s, i) {
+            return i;
+        }
+        i += SHORT;
+    }
+    i
+}
+
+// The end of the line.
+fn line_end(s: &[u8], at: Pos) -> Pos
+    ensures { λ r. ⌜ r .0 ≡ at .0 + run (member 8) (drop (at .0) (now (s .entry))) ⌝ }
+{
+    let mut i = line_blocks(s, at.0);
+    while i < s.len() {
+        let b = s[i];
+        if (b == b'\n') | (b == b'\r') {
+            return Pos(i);
+        }
+        i += 1;
+    }
+    Pos(i)
+}
+
 // What starts at a slash: a comment, or nothing.
 fn comment_item(s: &[u8], at: Pos) -> Piece
     requires { ⌜ at .0 < length (now s) ⌝ }
@@ -201,7 +266,7 @@ fn comment_item(s: &[u8], at: Pos) -> Piece
         }
     }
     if two_are(s, at, b'/', b'/') {
-        let end = run_end(s, Pos(behind), class::COMMENT_TEXT);
+        let end = line_end(s, Pos(behind));
         if behind < end.0 {
             return Piece::Item(kind::LINE_COMMENT, end);
         }
@@ -209,17 +274,19 @@ fn comment_item(s: &[u8], at: Pos) -> Piece
     Piece::No
 }
 
-// The end of the blanks that go on here. Most often there are none, and a byte above the space tells so without the table.
+// The end of the blanks that go on here. Two bytes are compared; the table of classes would be set up anew for each run.
 fn blanks_end(s: &[u8], at: Pos) -> Pos
     ensures { λ r. ⌜ r .0 ≡ at .0 + run blank (drop (at .0) (now (s .entry))) ⌝ }
 {
-    let i = at.0;
-    if i < s.len() {
-        if b' ' < s[i] {
-            return at;
+    let mut i = at.0;
+    while i < s.len() {
+        let b = s[i];
+        if !((b == b' ') | (b == b'\t')) {
+            return Pos(i);
         }
+        i += 1;
     }
-    run_end(s, at, class::BLANK)
+    Pos(i)
 }
 
 // What starts here. Most bytes stand above the space and start nothing; they are answered first.
@@ -313,7 +380,30 @@ pub enum High {
     No,
 }
 
+// There is a byte of 128 or more. Every byte is looked at, so that the compiler compares many at once.
+fn any_high(s: &[u8]) -> bool
+    ensures { λ r. ⌜ (r ≡ false → none ≡ first-high 0 (now (s .entry))) ⌝ }
+{
+    let mut found = false;
+    let mut i: usize = 0;
+    while i < s.len() {
+        found = found | (128 <= s[i]);
+        i += 1;
+    }
+    found
+}
+
 pub fn first_high(s: &[u8]) -> High
+    ensures { λ r. ⌜ high-of r ≡ first-high 0 (now (s .entry)) ⌝ }
+{
+    if !any_high(s) {
+        return High::No;
+    }
+    high_byte(s)
+}
+
+// The same, byte by byte.
+fn high_byte(s: &[u8]) -> High
     ensures { λ r. ⌜ high-of r ≡ first-high 0 (now (s .entry)) ⌝ }
 {
     let mut i: usize = 0;

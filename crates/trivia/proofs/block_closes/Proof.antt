@@ -4,19 +4,19 @@ use mathlib.Core.Bool.{false}
 use Prim.Native.Nat.{_+_, _-_, _≤_}
 use native.Mathlib.Omega.{arith}
 use lib.ListN.{length}
-use Rattle.trivia.specs.Piece.{Unmarked}
-use Rattle.trivia.proofs.Unmarked.{unmarked-none, unmarked-found, unmarked-to}
+use Rattle.trivia.specs.Piece.{closes-at, Clear}
+use Rattle.trivia.proofs.Clear.{clear-none, clear-found, clear-to}
 use Rattle.trivia.proofs.block_closes.Statement.{statement}
 use Rattle.trivia.proofs.block_closes.Tie as tie
 
 abbrev Inv-loop : tie.InvT-loop
-Inv-loop s at found₀ j₀ found j = (j ≤ 64) × (found ≡ false → Unmarked s at (at + j))
+Inv-loop s at found₀ j₀ found j = (j ≤ 64) × (found ≡ false → Clear (closes-at s) at (at + j))
 
 abbrev μ-loop : tie.MeasureT-loop
 μ-loop s at found₀ j₀ found j = 64 - j
 
 loop-holds : tie.Need-loop-holds Inv-loop μ-loop
-loop-holds c = (omega arith, λ e. unmarked-none _ _ _ (omega arith))
+loop-holds c = (omega arith, λ e. clear-none _ _ (omega arith))
 
 add-found : tie.Need-add-found Inv-loop μ-loop
 add-found c = omega arith
@@ -40,10 +40,10 @@ loop-less : tie.Need-loop-less Inv-loop μ-loop
 loop-less c = omega arith
 
 loop-again : tie.Need-loop-again Inv-loop μ-loop
-loop-again c = (omega arith, λ e. unmarked-found _ (c .before .before .before .loop .inv .1) (omega arith) e)
+loop-again c = (omega arith, λ e. clear-found _ (c .before .before .before .loop .inv .1) (omega arith) e)
 
 returns : tie.Need-returns Inv-loop μ-loop
-returns c = λ e. unmarked-to (c .before .loop .inv .1 e) (omega arith)
+returns c = λ e. clear-to (c .before .loop .inv .1 e) (omega arith)
 
 pub block-closes-spec : {M : Type 1} → statement M
 block-closes-spec =

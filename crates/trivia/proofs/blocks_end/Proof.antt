@@ -2,19 +2,19 @@
 use Prim.Native.Nat.{_-_}
 use native.Mathlib.Omega.{arith}
 use lib.ListN.{length}
-use Rattle.trivia.specs.Piece.{Unmarked}
-use Rattle.trivia.proofs.Unmarked.{unmarked-none, unmarked-both}
+use Rattle.trivia.specs.Piece.{closes-at, Clear}
+use Rattle.trivia.proofs.Clear.{clear-none, clear-both}
 use Rattle.trivia.proofs.blocks_end.Statement.{statement}
 use Rattle.trivia.proofs.blocks_end.Tie as tie
 
 abbrev Inv-loop : tie.InvT-loop
-Inv-loop s at i₀ i = Unmarked s at i
+Inv-loop s at i₀ i = Clear (closes-at s) at i
 
 abbrev μ-loop : tie.MeasureT-loop
 μ-loop s at i₀ i = length s - i
 
 loop-holds : tie.Need-loop-holds Inv-loop μ-loop
-loop-holds c = unmarked-none _ _ _ (omega arith)
+loop-holds c = clear-none _ _ (omega arith)
 
 sub-if1 : tie.Need-sub-if1 Inv-loop μ-loop
 sub-if1 c = omega arith
@@ -35,7 +35,7 @@ loop-less : tie.Need-loop-less Inv-loop μ-loop
 loop-less c = omega arith
 
 loop-again : tie.Need-loop-again Inv-loop μ-loop
-loop-again c = unmarked-both (c .before .before .before .before .loop .inv) (c .before .block-closes .ensures (c .if2 .left))
+loop-again c = clear-both (c .before .before .before .before .loop .inv) (c .before .block-closes .ensures (c .if2 .left))
 
 returns-3 : tie.Need-returns-3 Inv-loop μ-loop
 returns-3 c = c .before .loop .inv

@@ -1,5 +1,5 @@
 -- Where no closing mark starts, the comment is open.
-use Rattle.trivia.proofs.Unmarked.{unmarked-open}
+use Rattle.trivia.proofs.Clear.{unmarked-open}
 use borrow.Author.Needs.{needs}
 use Rattle.trivia.proofs.c_comment.Statement.{statement}
 use Rattle.trivia.proofs.c_comment.Tie as tie

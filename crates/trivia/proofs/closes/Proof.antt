@@ -3,13 +3,13 @@ use mathlib.Core.Path.{_≡_, refl}
 use Prim.Native.Nat.{ℕ, _-_}
 use native.Mathlib.Omega.{arith}
 use lib.ListN.{length}
-use Rattle.trivia.specs.Piece.{Unmarked}
-use Rattle.trivia.proofs.Unmarked.{unmarked-more, unmarked-last, unmarked-to}
+use Rattle.trivia.specs.Piece.{closes-at, Clear}
+use Rattle.trivia.proofs.Clear.{clear-more, clear-to, unmarked-last}
 use Rattle.trivia.proofs.closes.Statement.{statement}
 use Rattle.trivia.proofs.closes.Tie as tie
 
 abbrev Inv-loop : tie.InvT-loop
-Inv-loop s at i₀ i = Unmarked s at i
+Inv-loop s at i₀ i = Clear (closes-at s) at i
 
 abbrev μ-loop : tie.MeasureT-loop
 μ-loop s at i₀ i = length s - i
@@ -24,7 +24,7 @@ add-next : tie.Need-add-next Inv-loop μ-loop
 add-next c = omega arith
 
 returns : tie.Need-returns Inv-loop μ-loop
-returns c = λ e. unmarked-last (c .before .before .loop .inv) (c .if1 .taken)
+returns c = λ e. unmarked-last (c .before .before .before .before .before .args .s .now) (c .before .before .loop .inv) (c .if1 .taken)
 
 shared-slice-read-if2 : tie.Need-shared-slice-read-if2 Inv-loop μ-loop
 shared-slice-read-if2 c = omega arith
@@ -39,10 +39,10 @@ loop-less : tie.Need-loop-less Inv-loop μ-loop
 loop-less c = omega arith
 
 loop-again : tie.Need-loop-again Inv-loop μ-loop
-loop-again c = unmarked-more (c .before .before .before .before .before .loop .inv) refl (c .if2 .left)
+loop-again c = clear-more (c .before .before .before .before .before .loop .inv) refl (c .if2 .left)
 
 returns-3 : tie.Need-returns-3 Inv-loop μ-loop
-returns-3 c = λ e. unmarked-to (c .before .loop .inv) (c .loop-test .left)
+returns-3 c = λ e. clear-to (c .before .loop .inv) (c .loop-test .left)
 
 pub closes-spec : {M : Type 1} → statement M
 closes-spec =

@@ -37,15 +37,15 @@ returns-2 c =
 two-are-requires-2 : tie.Need-two-are-requires-2
 two-are-requires-2 c κs = search needs
 
-run-end-requires : tie.Need-run-end-requires
-run-end-requires c κs = search needs
+line-end-requires : tie.Need-line-end-requires
+line-end-requires c κs = search needs
 
 returns-3 : tie.Need-returns-3
 returns-3 c =
     starts-line _ _ (c .before .before .before .before .before .before .before .before .before .pre .0)
     (c .before .before .before .before .before .before .before .before .before .pre .1)
     (sym (c .before .before .before .before .before .before .two-are .ensures) ∙ c .before .before .before .before .before .if1 .left)
-    (sym (c .before .before .before .before .two-are2 .ensures) ∙ c .before .before .before .if2 .taken) _ (c .before .before .run-end .ensures)
+    (sym (c .before .before .before .before .two-are2 .ensures) ∙ c .before .before .before .if2 .taken) _ (c .before .before .line-end .ensures)
     (c .if3 .taken)
 
 returns-4 : tie.Need-returns-4
@@ -53,7 +53,7 @@ returns-4 c =
     starts-bare _ _ (c .before .before .before .before .before .before .before .before .before .pre .0)
     (c .before .before .before .before .before .before .before .before .before .pre .1)
     (sym (c .before .before .before .before .before .before .two-are .ensures) ∙ c .before .before .before .before .before .if1 .left)
-    (sym (c .before .before .before .before .two-are2 .ensures) ∙ c .before .before .before .if2 .taken) _ (c .before .before .run-end .ensures)
+    (sym (c .before .before .before .before .two-are2 .ensures) ∙ c .before .before .before .if2 .taken) _ (c .before .before .line-end .ensures)
     (c .if3 .left)
 
 returns-5 : tie.Need-returns-5
@@ -73,7 +73,7 @@ comment-item-spec =
     enum-told
     returns-2
     two-are-requires-2
-    run-end-requires
+    line-end-requires
     returns-3
     returns-4
     returns-5)
