@@ -24,7 +24,7 @@ use Rattle.trivia.specs.declared.Close.{Close}
 use Rattle.trivia.specs.declared.Close.the-variants.{At, Open}
 use Rattle.trivia.specs.declared.Piece.the-variants.{Item, No}
 
-both : (a b : Bool) → a && b ≡ true → (a ≡ true) × (b ≡ true)
+pub both : (a b : Bool) → a && b ≡ true → (a ≡ true) × (b ≡ true)
 both true b e = (refl, e)
 both false b e = absurd (let z : _≡_ {A = ℕ} 0 1 = cc in let y : ⊥ = omega arith in y)
 

@@ -4,15 +4,16 @@ use mathlib.Core.Bool.{Bool, true, false, _||_, _&&_, not, cond, or-false, or-as
 use mathlib.Core.List.{List, [], _∷_, _++_}
 use Prim.Native.Nat.{ℕ, _+_, _≤_, _<_}
 use native.Mathlib.Omega.{arith}
-use borrow.Author.Tests.{lt-ltb}
-use lib.Dec.{eqb}
-use lib.ListN.{length, drop, length-drop}
+use borrow.Author.Tests.{lt-ltb, eqb-true}
+use lib.Dec.{eqb, ltb}
+use lib.ListN.{length, getD, drop, length-drop}
 use Rattle.reading.specs.Grammar.{Rows, Rule, _▸_, many0, joined}
 use Rattle.reading.specs.Rules.{opt, trivia, multiline-trivia}
 use Rattle.reading.specs.Summary.{fits, more, thenˢ, elseˢ, withˢ, last-roundˢ, gateˢ, next-roundˢ, Scan, roundsˢ, scan}
 use Rattle.cursor.specs.Text.{here, skip, Skips}
 use Rattle.table.specs.declared.Pos.{Pos}
-use Rattle.trivia.specs.Piece.{summary-of, item-for, trivia-of, kept, Bounded, Starts}
+use Rattle.trivia.specs.Piece.{summary-of, item-for, trivia-of, kept, Bounded, Starts, Nothing}
+use Rattle.trivia.proofs.Pieces.{both, starts-feed, starts-plain}
 use Rattle.trivia.specs.declared.Piece.{Piece}
 use Rattle.trivia.specs.declared.Piece.the-variants.{Item, No}
 
@@ -53,6 +54,16 @@ pub kept-same : (lines : Bool) (k : ℕ) (e : Pos) → eqb k 2 && not lines ≡ 
 unfolding kept
 kept-same true k e h = refl
 kept-same false k e h = ap (λ (x : Bool). cond x No (Item k e)) (sym (and-true (eqb k 2)) ∙ h)
+
+-- a line feed on one line, or a byte above the space that is no slash
+pub nothing : (lines : Bool) (s : List ℕ) (i : ℕ) → i < length s → (eqb (getD s i 0) 10 && not lines) || (ltb 32 (getD s i 0) && not (eqb (getD s i 0) 47)) ≡ true → Nothing lines s i
+nothing lines s i h = go (eqb (getD s i 0) 10 && not lines) refl
+  where
+    go : (x : Bool) → eqb (getD s i 0) 10 && not lines ≡ x → x || (ltb 32 (getD s i 0) && not (eqb (getD s i 0) 47)) ≡ true → Nothing lines s i
+    go true q e =
+        let z = both (eqb (getD s i 0) 10) (not lines) q in
+        record { piece = Item 2 (record { 0 = i + 1 }); starts = starts-feed s i h (eqb-true (getD s i 0) 10 (z .0)); none = kept-no lines 2 (record { 0 = i + 1 }) (z .1) }
+    go false q e = record { piece = No; starts = starts-plain s i h e; none = kept-none lines }
 
 -- one item after another, and then none
 pub data Walk (lines : Bool) (s : List ℕ) : ℕ → Bool → ℕ → Type 0 where

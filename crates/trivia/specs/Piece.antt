@@ -72,5 +72,8 @@ pub record Starts (s : List ℕ) (at : ℕ) (r : Piece) : Type 0 where
   pub scanned : (lines : Bool) (τ : Rule → Scan Rows) (l : ℕ) → scan τ (item-for lines) l (here s at) ≡ summary-of s (kept lines r)
   pub bounded : Bounded s at r
 
-abbrev pub Nothing : List ℕ → ℕ → Type 0
-Nothing s at = Starts s at No
+-- no item of trivia, of several lines or of one, starts at a place
+pub record Nothing (lines : Bool) (s : List ℕ) (at : ℕ) : Type 0 where
+  pub piece : Piece
+  pub starts : Starts s at piece
+  pub none : kept lines piece ≡ No

@@ -341,15 +341,16 @@ fn skip(s: &[u8], at: Pos, met: bool, lines: bool) -> Skip
     }
 }
 
-// Nothing starts here, as most often: a byte above the space that is no slash tells so.
-fn bare(s: &[u8], at: Pos) -> bool
-    ensures { λ r. ⌜ (r ≡ true → Nothing (now (s .entry)) (at .0)) ⌝ }
+// No trivia starts here, as most often: a byte above the space that is no slash tells so, on one line a line feed too.
+fn bare(s: &[u8], at: Pos, lines: bool) -> bool
+    ensures { λ r. ⌜ (r ≡ true → Nothing lines (now (s .entry)) (at .0)) ⌝ }
 {
     let i = at.0;
     if s.len() <= i {
         return false;
     }
-    (b' ' < s[i]) & (s[i] != b'/')
+    let b = s[i];
+    ((b == b'\n') & !lines) | ((b' ' < b) & (b != b'/'))
 }
 
 // Trivia of one line, as ws reads it; `met` is that an open comment was met before.
@@ -357,7 +358,7 @@ pub fn trivia(s: &[u8], at: Pos, met: bool) -> Skip
     requires { ⌜ at .0 ≤ length (now s) ⌝ }
     ensures { λ r. ⌜ Skips trivia (now (s .entry)) (at .0) met r ⌝ }
 {
-    if bare(s, at) {
+    if bare(s, at, false) {
         return Skip { at, met };
     }
     skip(s, at, met, false)
@@ -368,7 +369,7 @@ pub fn multiline_trivia(s: &[u8], at: Pos, met: bool) -> Skip
     requires { ⌜ at .0 ≤ length (now s) ⌝ }
     ensures { λ r. ⌜ Skips multiline-trivia (now (s .entry)) (at .0) met r ⌝ }
 {
-    if bare(s, at) {
+    if bare(s, at, true) {
         return Skip { at, met };
     }
     skip(s, at, met, true)
