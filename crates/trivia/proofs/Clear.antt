@@ -1,6 +1,6 @@
 -- Blocks of bytes in which a test fails: no closing mark starts there, or no line ends.
 use mathlib.Core.Path.{_≡_, refl, ap, sym, _∙_}
-use mathlib.Core.Bool.{Bool, true, false, not, _&&_, _||_}
+use mathlib.Core.Bool.{Bool, true, false, not, _&&_, _||_, and-false}
 use mathlib.Core.List.{List, [], _∷_}
 use mathlib.Core.Option.{Option, none, some}
 use Prim.Native.Nat.{ℕ, zero, suc, _+_, _≤_, _<_}
@@ -13,9 +13,9 @@ use lib.ListN.{length, getD, drop}
 use lib.Seq.{getD-drop}
 use Rattle.reading.specs.Byte.{comment, plus, run}
 use Rattle.cursor.proofs.Places.{run-go}
-use Rattle.trivia.proofs.Marks.{neither}
+use Rattle.trivia.proofs.Marks.{neither, left-step, left-on}
 use Rattle.trivia.specs.Class.{member}
-use Rattle.trivia.specs.Piece.{close-of, closed, closes-at, ends-at, Clear}
+use Rattle.trivia.specs.Piece.{close-of, closed, closes-at, ends-at, star-at, Clear, left, Unmarked}
 use Rattle.trivia.specs.declared.Close.{Close}
 use Rattle.trivia.specs.declared.Close.the-variants.{At, Open}
 
@@ -90,11 +90,7 @@ unmarked-open s at h = sym (ap (close-of at) (never (drop at s) 0 0 plain))
 
 -- the last byte starts no mark
 pub unmarked-last : (s : List ℕ) {a m : ℕ} → Clear (closes-at s) a m → length s ≤ m + 1 → Clear (closes-at s) a (length s)
-unmarked-last s {a} {m} f n = clear-to (clear-more f refl (ap (λ x. eqb (getD s m 0) 42 && eqb x 47) (past s (m + 1) n) ∙ nothing (eqb (getD s m 0) 42))) n
-  where
-    nothing : (x : Bool) → x && false ≡ false
-    nothing true = refl
-    nothing false = refl
+unmarked-last s {a} {m} f n = clear-to (clear-more f refl (ap (λ x. eqb (getD s m 0) 42 && eqb x 47) (past s (m + 1) n) ∙ and-false (eqb (getD s m 0) 42))) n
 
 -- a run goes on over places that do not end it
 run-over : (f : ℕ → Bool) (s : List ℕ) (i n : ℕ) → i + n ≤ length s → ((j : ℕ) → i ≤ j → j < i + n → f (getD s j 0) ≡ true)
@@ -108,3 +104,21 @@ run-over f s i (suc n) h g =
 -- a line goes on over a block in which none ends
 pub line-over : (s : List ℕ) (i : ℕ) → i + 16 ≤ length s → Clear (ends-at s) i (i + 16) → i + run (member 8) (drop i s) ≡ (i + 16) + run (member 8) (drop (i + 16) s)
 line-over s i h g = run-over (member 8) s i 16 h (λ j a b. ap not (g .plain j a b))
+
+-- where no star stands no mark starts: a slash before it is followed by none
+stars-over : (s : List ℕ) (d i n : ℕ) → i + n < length s → Clear (star-at s) i (i + n + 1) → left s d 0 i ≡ left s d 0 (i + n)
+stars-over s d i zero h g = ap (left s d 0) (sym (add-zero i))
+stars-over s d i (suc n) h g =
+    left-step s d i (omega (arith, h))
+    ∙ left-on s (getD s i 0) (i + 1) (omega (arith, h)) d
+    (ap (_&& eqb (getD s (i + 1) 0) 47) (g .plain i (omega arith) (omega arith)))
+    (ap (eqb (getD s i 0) 47 &&_) (g .plain (i + 1) (omega arith) (omega arith)) ∙ and-false (eqb (getD s i 0) 47))
+    ∙ stars-over s d (i + 1) n (omega (arith, h)) (record { plain = λ j a b. g .plain j (omega (arith, a)) (omega (arith, b)) })
+    ∙ ap (left s d 0) (let z : (i + 1) + n ≡ i + suc n = omega arith in z)
+
+pub unmarked-none : (s : List ℕ) (i : ℕ) → Unmarked s i i
+unmarked-none s i = record { on = omega arith; same = λ d. refl }
+
+pub unmarked-more : {s : List ℕ} {a i : ℕ} → Unmarked s a i → i + 16 ≤ length s → Clear (star-at s) i (i + 16) → Unmarked s a (i + 15)
+unmarked-more {s} {a} {i} u h g =
+    record { on = omega (arith, u .on); same = λ d. u .same d ∙ stars-over s d i 15 (omega (arith, h)) (clear-to g (omega arith)) }

@@ -10,17 +10,13 @@ use lib.ListN.{length, getD, drop, drop-of-length-le}
 use lib.Dec.{eqb}
 use Rattle.reading.specs.Byte.{comment, plus}
 use Rattle.cursor.proofs.Places.{cons}
-use Rattle.trivia.specs.Piece.{close-of, closed}
+use Rattle.trivia.specs.Piece.{close-of, closed, left}
 use Rattle.trivia.specs.declared.Close.{Close}
 use Rattle.trivia.specs.declared.Close.the-variants.{At, Open}
 
 close-plus : (i k : ℕ) (o : Option ℕ) → close-of i (plus k o) ≡ close-of (i + k) o
 close-plus i k none = refl
 close-plus i k (some n) = ap {B = Close} (λ (j : ℕ). At (record { 0 = j })) (let h : i + (k + n) ≡ i + k + n = omega arith in h)
-
--- what is left of a comment from a place: d more are open around it, and p is the byte before
-unfoldable pub left : List ℕ → ℕ → ℕ → ℕ → Close
-left s d p i = close-of i (comment d p (drop i s))
 
 pub left-all : (s : List ℕ) (at : ℕ) → closed s at ≡ left s 0 0 at
 unfolding left closed

@@ -32,9 +32,21 @@ closes-at s i = eqb (getD s i 0) 42 && eqb (getD s (i + 1) 0) 47
 abbrev pub ends-at : List ℕ → ℕ → Bool
 ends-at s i = line-end (getD s i 0)
 
+abbrev pub star-at : List ℕ → ℕ → Bool
+star-at s i = eqb (getD s i 0) 42
+
 -- no place from a on, before z, passes the test
 pub record Clear (f : ℕ → Bool) (a z : ℕ) : Type 0 where
   pub plain : (i : ℕ) → a ≤ i → i < z → f i ≡ false
+
+-- what is left of a comment from a place: d more are open around it, and p is the byte before
+unfoldable pub left : List ℕ → ℕ → ℕ → ℕ → Close
+left s d p i = close-of i (comment d p (drop i s))
+
+-- no mark starts from a on, before z: a comment goes on there
+pub record Unmarked (s : List ℕ) (a z : ℕ) : Type 0 where
+  pub on : a ≤ z
+  pub same : (d : ℕ) → left s d 0 a ≡ left s d 0 z
 
 -- a piece, as `item` gives it
 unfoldable pub item-of : List ℕ → Piece → Option (ℕ × Input)

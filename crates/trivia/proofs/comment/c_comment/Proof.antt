@@ -1,8 +1,8 @@
 -- Where no closing mark starts, the comment is open.
 use Rattle.trivia.proofs.Clear.{unmarked-open}
 use borrow.Author.Needs.{needs}
-use Rattle.trivia.proofs.c_comment.Statement.{statement}
-use Rattle.trivia.proofs.c_comment.Tie as tie
+use Rattle.trivia.proofs.comment.c_comment.Statement.{statement}
+use Rattle.trivia.proofs.comment.c_comment.Tie as tie
 
 closes-requires : tie.Need-closes-requires
 closes-requires c κs = search needs

@@ -6,8 +6,8 @@ use native.Mathlib.Omega.{arith}
 use lib.ListN.{length}
 use Rattle.trivia.specs.Piece.{closes-at, Clear}
 use Rattle.trivia.proofs.Clear.{clear-none, clear-found, clear-to}
-use Rattle.trivia.proofs.block_closes.Statement.{statement}
-use Rattle.trivia.proofs.block_closes.Tie as tie
+use Rattle.trivia.proofs.comment.block_closes.Statement.{statement}
+use Rattle.trivia.proofs.comment.block_closes.Tie as tie
 
 abbrev Inv-loop : tie.InvT-loop
 Inv-loop s at found₀ j₀ found j = (j ≤ 64) × (found ≡ false → Clear (closes-at s) at (at + j))

@@ -5,8 +5,8 @@ use Prim.Native.Nat.{_+_, _-_, _≤_}
 use native.Mathlib.Omega.{arith}
 use Rattle.trivia.specs.Piece.{ends-at, Clear}
 use Rattle.trivia.proofs.Clear.{clear-none, clear-found, clear-to}
-use Rattle.trivia.proofs.line_ends.Statement.{statement}
-use Rattle.trivia.proofs.line_ends.Tie as tie
+use Rattle.trivia.proofs.comment.line_ends.Statement.{statement}
+use Rattle.trivia.proofs.comment.line_ends.Tie as tie
 
 abbrev Inv-loop : tie.InvT-loop
 Inv-loop s at found₀ j₀ found j = (j ≤ 16) × (found ≡ false → Clear (ends-at s) at (at + j))

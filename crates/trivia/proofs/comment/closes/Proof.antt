@@ -5,8 +5,8 @@ use native.Mathlib.Omega.{arith}
 use lib.ListN.{length}
 use Rattle.trivia.specs.Piece.{closes-at, Clear}
 use Rattle.trivia.proofs.Clear.{clear-more, clear-to, unmarked-last}
-use Rattle.trivia.proofs.closes.Statement.{statement}
-use Rattle.trivia.proofs.closes.Tie as tie
+use Rattle.trivia.proofs.comment.closes.Statement.{statement}
+use Rattle.trivia.proofs.comment.closes.Tie as tie
 
 abbrev Inv-loop : tie.InvT-loop
 Inv-loop s at i₀ i = Clear (closes-at s) at i

@@ -3,10 +3,10 @@ use mathlib.Core.Path.{_≡_, refl, sym, _∙_}
 use Prim.Native.Nat.{_≤_, _-_}
 use native.Mathlib.Omega.{arith}
 use lib.ListN.{length}
-use Rattle.trivia.specs.Piece.{closed}
-use Rattle.trivia.proofs.Marks.{left, left-all, left-end, left-step, left-plain, left-close, left-less, left-deeper, left-on, left-both}
-use Rattle.trivia.proofs.marks_end.Statement.{statement}
-use Rattle.trivia.proofs.marks_end.Tie as tie
+use Rattle.trivia.specs.Piece.{closed, left}
+use Rattle.trivia.proofs.Marks.{left-all, left-end, left-step, left-plain, left-close, left-less, left-deeper, left-on, left-both}
+use Rattle.trivia.proofs.comment.marks_end.Statement.{statement}
+use Rattle.trivia.proofs.comment.marks_end.Tie as tie
 
 abbrev Inv-loop : tie.InvT-loop
 Inv-loop s i₀ «open» i = (i₀ ≤ i) × (left s «open» 0 i₀ ≡ left s «open» 0 i)
@@ -22,6 +22,9 @@ abbrev μ-marks : tie.MeasureT-marks
 
 marks-holds : tie.Need-marks-holds Inv-loop μ-loop Inv-marks μ-marks
 marks-holds c = (omega arith, left-all _ _)
+
+starless-end-requires : tie.Need-starless-end-requires Inv-loop μ-loop Inv-marks μ-marks
+starless-end-requires c κs = tt
 
 loop-holds : tie.Need-loop-holds Inv-loop μ-loop Inv-marks μ-marks
 loop-holds c = (omega arith, refl)
@@ -53,7 +56,8 @@ marks-less c = omega arith
 marks-again : tie.Need-marks-again Inv-loop μ-loop Inv-marks μ-marks
 marks-again c = (
   omega arith,
-  c .before .before .before .before .before .before .before .before .marks .inv .1
+  c .before .before .before .before .before .before .before .before .before .marks .inv .1
+      ∙ c .before .before .before .before .before .before .before .before .starless-end .ensures .same _
       ∙ c .before .before .before .before .before .before .before .loop .inv .1
       ∙ left-step _ _ _ (c .before .before .before .before .before .before .if1 .left)
       ∙ left-less _ _ _ (c .before .before .before .if3 .taken) _ (c .if5 .left) (c .before .if4 .taken),
@@ -71,7 +75,8 @@ marks-less-2 c = omega arith
 marks-again-2 : tie.Need-marks-again-2 Inv-loop μ-loop Inv-marks μ-marks
 marks-again-2 c = (
   omega arith,
-  c .before .before .before .before .before .before .before .before .marks .inv .1
+  c .before .before .before .before .before .before .before .before .before .marks .inv .1
+      ∙ c .before .before .before .before .before .before .before .before .starless-end .ensures .same _
       ∙ c .before .before .before .before .before .before .before .loop .inv .1
       ∙ left-step _ _ _ (c .before .before .before .before .before .before .if1 .left)
       ∙ left-deeper _ _ _ (c .before .before .before .if3 .taken) _ (c .before .if4 .left) (c .if6 .taken),
@@ -83,7 +88,8 @@ marks-less-3 c = omega arith
 marks-again-3 : tie.Need-marks-again-3 Inv-loop μ-loop Inv-marks μ-marks
 marks-again-3 c = (
   omega arith,
-  c .before .before .before .before .before .before .before .before .marks .inv .1
+  c .before .before .before .before .before .before .before .before .before .marks .inv .1
+      ∙ c .before .before .before .before .before .before .before .before .starless-end .ensures .same _
       ∙ c .before .before .before .before .before .before .before .loop .inv .1
       ∙ left-step _ _ _ (c .before .before .before .before .before .before .if1 .left)
       ∙ left-on _ _ _ (c .before .before .before .if3 .taken) _ (c .before .if4 .left) (c .if6 .left),
@@ -95,19 +101,22 @@ marks-less-4 c = omega arith
 marks-again-4 : tie.Need-marks-again-4 Inv-loop μ-loop Inv-marks μ-marks
 marks-again-4 c = (
   omega arith,
-  c .before .before .before .before .before .marks .inv .1
+  c .before .before .before .before .before .before .marks .inv .1
+      ∙ c .before .before .before .before .before .starless-end .ensures .same _
       ∙ c .before .before .before .before .loop .inv .1
       ∙ left-step _ _ _ (c .before .before .before .if1 .left)
       ∙ left-both _ _ _ _ _ (c .if3 .left),
 )
 
 returns : tie.Need-returns Inv-loop μ-loop Inv-marks μ-marks
-returns c = sym (c .before .before .marks .inv .1 ∙ c .before .loop .inv .1 ∙ left-end _ _ _ _ (c .if1 .taken))
+returns c = sym (c .before .before .before .marks .inv .1
+    ∙ c .before .before .starless-end .ensures .same _ ∙ c .before .loop .inv .1 ∙ left-end _ _ _ _ (c .if1 .taken))
 
 returns-2 : tie.Need-returns-2 Inv-loop μ-loop Inv-marks μ-marks
 returns-2 c =
     sym
-    (c .before .before .before .before .before .before .before .before .marks .inv .1
+    (c .before .before .before .before .before .before .before .before .before .marks .inv .1
+    ∙ c .before .before .before .before .before .before .before .before .starless-end .ensures .same _
     ∙ c .before .before .before .before .before .before .before .loop .inv .1
     ∙ left-step _ _ _ (c .before .before .before .before .before .before .if1 .left)
     ∙ left-close _ _ _ (c .before .before .before .if3 .taken) _ (c .if5 .taken) (c .before .if4 .taken))
@@ -121,6 +130,7 @@ marks-end-spec =
     Inv-marks
     μ-marks
     marks-holds
+    starless-end-requires
     loop-holds
     shared-slice-read-b
     add-i

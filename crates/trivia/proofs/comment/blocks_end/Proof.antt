@@ -4,8 +4,8 @@ use native.Mathlib.Omega.{arith}
 use lib.ListN.{length}
 use Rattle.trivia.specs.Piece.{closes-at, Clear}
 use Rattle.trivia.proofs.Clear.{clear-none, clear-both}
-use Rattle.trivia.proofs.blocks_end.Statement.{statement}
-use Rattle.trivia.proofs.blocks_end.Tie as tie
+use Rattle.trivia.proofs.comment.blocks_end.Statement.{statement}
+use Rattle.trivia.proofs.comment.blocks_end.Tie as tie
 
 abbrev Inv-loop : tie.InvT-loop
 Inv-loop s at i₀ i = Clear (closes-at s) at i

@@ -6,8 +6,8 @@ use lib.ListN.{length, drop}
 use Rattle.reading.specs.Byte.{run}
 use Rattle.trivia.specs.Class.{member}
 use Rattle.trivia.proofs.Clear.{line-over}
-use Rattle.trivia.proofs.line_blocks.Statement.{statement}
-use Rattle.trivia.proofs.line_blocks.Tie as tie
+use Rattle.trivia.proofs.comment.line_blocks.Statement.{statement}
+use Rattle.trivia.proofs.comment.line_blocks.Tie as tie
 
 abbrev Inv-loop : tie.InvT-loop
 Inv-loop s at i₀ i = at + run (member 8) (drop at s) ≡ i + run (member 8) (drop i s)

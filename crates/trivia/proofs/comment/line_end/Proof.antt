@@ -7,8 +7,8 @@ use lib.ListN.{length, drop}
 use Rattle.cursor.proofs.Places.{run-end, run-stop, run-go}
 use Rattle.reading.specs.Byte.{run}
 use Rattle.trivia.specs.Class.{member}
-use Rattle.trivia.proofs.line_end.Statement.{statement}
-use Rattle.trivia.proofs.line_end.Tie as tie
+use Rattle.trivia.proofs.comment.line_end.Statement.{statement}
+use Rattle.trivia.proofs.comment.line_end.Tie as tie
 
 abbrev Inv-loop : tie.InvT-loop
 Inv-loop s i₀ i = i₀ + run (member 8) (drop i₀ s) ≡ i + run (member 8) (drop i s)

@@ -1,0 +1,50 @@
+-- The invariant: unless one was found, no star stands in the bytes looked at.
+use mathlib.Core.Path.{_≡_}
+use mathlib.Core.Bool.{false}
+use Prim.Native.Nat.{_+_, _-_, _≤_}
+use native.Mathlib.Omega.{arith}
+use Rattle.trivia.specs.Piece.{star-at, Clear}
+use Rattle.trivia.proofs.Clear.{clear-none, clear-found, clear-to}
+use Rattle.trivia.proofs.comment.block_stars.Statement.{statement}
+use Rattle.trivia.proofs.comment.block_stars.Tie as tie
+
+abbrev Inv-loop : tie.InvT-loop
+Inv-loop s at found₀ j₀ found j = (j ≤ 16) × (found ≡ false → Clear (star-at s) at (at + j))
+
+abbrev μ-loop : tie.MeasureT-loop
+μ-loop s at found₀ j₀ found j = 16 - j
+
+loop-holds : tie.Need-loop-holds Inv-loop μ-loop
+loop-holds c = (omega arith, λ e. clear-none _ _ (omega arith))
+
+add-found : tie.Need-add-found Inv-loop μ-loop
+add-found c = omega arith
+
+shared-slice-read-found : tie.Need-shared-slice-read-found Inv-loop μ-loop
+shared-slice-read-found c = omega arith
+
+add-j : tie.Need-add-j Inv-loop μ-loop
+add-j c = omega arith
+
+loop-less : tie.Need-loop-less Inv-loop μ-loop
+loop-less c = omega arith
+
+loop-again : tie.Need-loop-again Inv-loop μ-loop
+loop-again c = (omega arith, λ e. clear-found _ (c .before .before .loop .inv .1) (omega arith) e)
+
+returns : tie.Need-returns Inv-loop μ-loop
+returns c = λ e. clear-to (c .before .loop .inv .1 e) (omega arith)
+
+pub block-stars-spec : {M : Type 1} → statement M
+block-stars-spec =
+    tie.close
+    (tie.spec
+    Inv-loop
+    μ-loop
+    loop-holds
+    add-found
+    shared-slice-read-found
+    add-j
+    loop-less
+    loop-again
+    returns)

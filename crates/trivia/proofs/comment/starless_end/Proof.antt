@@ -1,0 +1,61 @@
+-- The invariant: no mark starts before i.
+use Prim.Native.Nat.{_-_}
+use native.Mathlib.Omega.{arith}
+use lib.ListN.{length}
+use Rattle.trivia.specs.Piece.{Unmarked}
+use Rattle.trivia.proofs.Clear.{unmarked-none, unmarked-more}
+use Rattle.trivia.proofs.comment.starless_end.Statement.{statement}
+use Rattle.trivia.proofs.comment.starless_end.Tie as tie
+
+abbrev Inv-loop : tie.InvT-loop
+Inv-loop s at i₀ i = Unmarked s at i
+
+abbrev μ-loop : tie.MeasureT-loop
+μ-loop s at i₀ i = length s - i
+
+loop-holds : tie.Need-loop-holds Inv-loop μ-loop
+loop-holds c = unmarked-none _ _
+
+sub-if1 : tie.Need-sub-if1 Inv-loop μ-loop
+sub-if1 c = omega arith
+
+returns : tie.Need-returns Inv-loop μ-loop
+returns c = c .before .before .loop .inv
+
+block-stars-requires : tie.Need-block-stars-requires Inv-loop μ-loop
+block-stars-requires c κs = omega arith
+
+returns-2 : tie.Need-returns-2 Inv-loop μ-loop
+returns-2 c = c .before .before .before .before .loop .inv
+
+sub-i : tie.Need-sub-i Inv-loop μ-loop
+sub-i c = omega arith
+
+add-i : tie.Need-add-i Inv-loop μ-loop
+add-i c = omega arith
+
+loop-less : tie.Need-loop-less Inv-loop μ-loop
+loop-less c = omega arith
+
+loop-again : tie.Need-loop-again Inv-loop μ-loop
+loop-again c = unmarked-more (c .before .before .before .before .loop .inv) (omega arith) (c .before .block-stars .ensures (c .if2 .left))
+
+returns-3 : tie.Need-returns-3 Inv-loop μ-loop
+returns-3 c = c .before .loop .inv
+
+pub starless-end-spec : {M : Type 1} → statement M
+starless-end-spec =
+    tie.close
+    (tie.spec
+    Inv-loop
+    μ-loop
+    loop-holds
+    sub-if1
+    returns
+    block-stars-requires
+    returns-2
+    sub-i
+    add-i
+    loop-less
+    loop-again
+    returns-3)
