@@ -15,7 +15,7 @@ use Rattle.reading.specs.Byte.{comment, plus, run}
 use Rattle.cursor.proofs.Places.{run-go}
 use Rattle.trivia.proofs.Marks.{neither, left-step, left-on}
 use Rattle.trivia.specs.Class.{member}
-use Rattle.trivia.specs.Piece.{close-of, closed, closes-at, ends-at, star-at, Clear, left, Unmarked}
+use Rattle.trivia.specs.Piece.{close-of, closed, closes-at, either-at, Clear, left, Unmarked}
 use Rattle.trivia.specs.declared.Close.{Close}
 use Rattle.trivia.specs.declared.Close.the-variants.{At, Open}
 
@@ -102,23 +102,26 @@ run-over f s i (suc n) h g =
     ∙ ap (λ j. j + run f (drop j s)) (let z : (i + 1) + n ≡ i + suc n = omega arith in z)
 
 -- a line goes on over a block in which none ends
-pub line-over : (s : List ℕ) (i : ℕ) → i + 16 ≤ length s → Clear (ends-at s) i (i + 16) → i + run (member 8) (drop i s) ≡ (i + 16) + run (member 8) (drop (i + 16) s)
+pub line-over : (s : List ℕ) (i : ℕ) → i + 16 ≤ length s → Clear (either-at 10 13 s) i (i + 16) → i + run (member 8) (drop i s) ≡ (i + 16) + run (member 8) (drop (i + 16) s)
 line-over s i h g = run-over (member 8) s i 16 h (λ j a b. ap not (g .plain j a b))
 
 -- where no star stands no mark starts: a slash before it is followed by none
-stars-over : (s : List ℕ) (d i n : ℕ) → i + n < length s → Clear (star-at s) i (i + n + 1) → left s d 0 i ≡ left s d 0 (i + n)
+stars-over : (s : List ℕ) (d i n : ℕ) → i + n < length s → Clear (either-at 42 42 s) i (i + n + 1) → left s d 0 i ≡ left s d 0 (i + n)
 stars-over s d i zero h g = ap (left s d 0) (sym (add-zero i))
 stars-over s d i (suc n) h g =
     left-step s d i (omega (arith, h))
     ∙ left-on s (getD s i 0) (i + 1) (omega (arith, h)) d
-    (ap (_&& eqb (getD s (i + 1) 0) 47) (g .plain i (omega arith) (omega arith)))
-    (ap (eqb (getD s i 0) 47 &&_) (g .plain (i + 1) (omega arith) (omega arith)) ∙ and-false (eqb (getD s i 0) 47))
+    (ap (_&& eqb (getD s (i + 1) 0) 47) (star i (omega arith) (omega arith)))
+    (ap (eqb (getD s i 0) 47 &&_) (star (i + 1) (omega arith) (omega arith)) ∙ and-false (eqb (getD s i 0) 47))
     ∙ stars-over s d (i + 1) n (omega (arith, h)) (record { plain = λ j a b. g .plain j (omega (arith, a)) (omega (arith, b)) })
     ∙ ap (left s d 0) (let z : (i + 1) + n ≡ i + suc n = omega arith in z)
+  where
+    star : (j : ℕ) → i ≤ j → j < i + suc n + 1 → eqb (getD s j 0) 42 ≡ false
+    star j a b = neither (eqb (getD s j 0) 42) (eqb (getD s j 0) 42) (g .plain j a b) .0
 
 pub unmarked-none : (s : List ℕ) (i : ℕ) → Unmarked s i i
 unmarked-none s i = record { on = omega arith; same = λ d. refl }
 
-pub unmarked-more : {s : List ℕ} {a i : ℕ} → Unmarked s a i → i + 16 ≤ length s → Clear (star-at s) i (i + 16) → Unmarked s a (i + 15)
+pub unmarked-more : {s : List ℕ} {a i : ℕ} → Unmarked s a i → i + 16 ≤ length s → Clear (either-at 42 42 s) i (i + 16) → Unmarked s a (i + 15)
 unmarked-more {s} {a} {i} u h g =
     record { on = omega (arith, u .on); same = λ d. u .same d ∙ stars-over s d i 15 (omega (arith, h)) (clear-to g (omega arith)) }

@@ -1,12 +1,12 @@
 -- What starts at a place: the end of a block comment, and one item of trivia.
-use mathlib.Core.Bool.{Bool, true, false, cond, _&&_}
+use mathlib.Core.Bool.{Bool, true, false, cond, _&&_, _||_}
 use mathlib.Core.List.{List, []}
 use mathlib.Core.Option.{Option, none, some}
 use mathlib.Core.Path.{_≡_}
 use Prim.Native.Nat.{ℕ, _+_, _≤_, _<_}
 use lib.Dec.{eqb}
 use lib.ListN.{length, drop, getD}
-use Rattle.reading.specs.Byte.{comment, line-end}
+use Rattle.reading.specs.Byte.{comment}
 use Rattle.reading.specs.Grammar.{Rows, Input, Rule, Parser, _or_}
 use Rattle.reading.specs.Rules.{trivia-impl, new-line, trivia, multiline-trivia}
 use Rattle.reading.specs.Summary.{Summary, fits, fails, Scan, scan}
@@ -25,15 +25,12 @@ close-of at (some n) = At (record { 0 = at + n })
 unfoldable pub closed : List ℕ → ℕ → Close
 closed s at = close-of at (comment 0 0 (drop at s))
 
--- a closing mark starts at a place; a line ends there
+-- a closing mark starts at a place; one of two bytes stands there
 abbrev pub closes-at : List ℕ → ℕ → Bool
 closes-at s i = eqb (getD s i 0) 42 && eqb (getD s (i + 1) 0) 47
 
-abbrev pub ends-at : List ℕ → ℕ → Bool
-ends-at s i = line-end (getD s i 0)
-
-abbrev pub star-at : List ℕ → ℕ → Bool
-star-at s i = eqb (getD s i 0) 42
+abbrev pub either-at : ℕ → ℕ → List ℕ → ℕ → Bool
+either-at a b s i = eqb (getD s i 0) a || eqb (getD s i 0) b
 
 -- no place from a on, before z, passes the test
 pub record Clear (f : ℕ → Bool) (a z : ℕ) : Type 0 where

@@ -7,7 +7,7 @@ ghost use Prim.Native.Nat.{_+_, _≤_, _<_};
 ghost use lib.ListN.{length, drop};
 ghost use Rattle.reading.specs.Byte.{run};
 ghost use Rattle.trivia.specs.Class.{member};
-ghost use Rattle.trivia.specs.Piece.{closed, closes-at, ends-at, star-at, Clear, Unmarked};
+ghost use Rattle.trivia.specs.Piece.{closed, closes-at, either-at, Clear, Unmarked};
 
 // How many bytes are looked at together, of a text and of a line.
 const BLOCK: usize = 64;
@@ -63,15 +63,16 @@ fn closes(s: &[u8], at: usize) -> bool
     false
 }
 
-// A star stands in the short block from here on.
-fn block_stars(s: &[u8], at: usize) -> bool
+// One of two bytes stands in the short block from here on.
+fn block_has(s: &[u8], at: usize, a: u8, b: u8) -> bool
     requires { ⌜ at + 16 ≤ length (now s) ⌝ }
-    ensures { λ r. ⌜ (r ≡ false → Clear (star-at (now (s .entry))) at (at + 16)) ⌝ }
+    ensures { λ r. ⌜ (r ≡ false → Clear (either-at a b (now (s .entry))) at (at + 16)) ⌝ }
 {
     let mut found = false;
     let mut j: usize = 0;
     while j < SHORT {
-        found = found | (s[at + j] == b'*');
+        let x = s[at + j];
+        found = found | ((x == a) | (x == b));
         j += 1;
     }
     found
@@ -86,7 +87,7 @@ fn starless_end(s: &[u8], at: usize) -> usize
         if s.len() - i < SHORT {
             return i;
         }
-        if block_stars(s, i) {
+        if block_has(s, i, b'*', b'*') {
             return i;
         }
         i += SHORT - 1;
@@ -139,21 +140,6 @@ pub fn c_comment(s: &[u8], at: Pos) -> Close
     Close::Open
 }
 
-// A line ends in the block from here on.
-fn line_ends(s: &[u8], at: usize) -> bool
-    requires { ⌜ at + 16 ≤ length (now s) ⌝ }
-    ensures { λ r. ⌜ (r ≡ false → Clear (ends-at (now (s .entry))) at (at + 16)) ⌝ }
-{
-    let mut found = false;
-    let mut j: usize = 0;
-    while j < SHORT {
-        let b = s[at + j];
-        found = found | ((b == b'\n') | (b == b'\r'));
-        j += 1;
-    }
-    found
-}
-
 // The end of the blocks from here on in which no line ends; the line goes on there.
 fn line_blocks(s: &[u8], at: usize) -> usize
     ensures { λ r. ⌜ at + run (member 8) (drop at (now (s .entry))) ≡ r + run (member 8) (drop r (now (s .entry))) ⌝ }
@@ -163,7 +149,7 @@ fn line_blocks(s: &[u8], at: usize) -> usize
         if s.len() - i < SHORT {
             return i;
         }
-        if line_ends(s, i) {
+        if block_has(s, i, b'\n', b'\r') {
             return i;
         }
         i += SHORT;

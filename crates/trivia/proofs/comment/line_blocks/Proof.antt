@@ -24,8 +24,8 @@ sub-if1 c = omega arith
 returns : tie.Need-returns Inv-loop μ-loop
 returns c = c .before .before .loop .inv
 
-line-ends-requires : tie.Need-line-ends-requires Inv-loop μ-loop
-line-ends-requires c κs = omega arith
+block-has-requires : tie.Need-block-has-requires Inv-loop μ-loop
+block-has-requires c κs = omega arith
 
 returns-2 : tie.Need-returns-2 Inv-loop μ-loop
 returns-2 c = c .before .before .before .before .loop .inv
@@ -37,7 +37,7 @@ loop-less : tie.Need-loop-less Inv-loop μ-loop
 loop-less c = omega arith
 
 loop-again : tie.Need-loop-again Inv-loop μ-loop
-loop-again c = c .before .before .before .before .loop .inv ∙ line-over _ _ (omega arith) (c .before .line-ends .ensures (c .if2 .left))
+loop-again c = c .before .before .before .before .loop .inv ∙ line-over _ _ (omega arith) (c .before .block-has .ensures (c .if2 .left))
 
 returns-3 : tie.Need-returns-3 Inv-loop μ-loop
 returns-3 c = c .before .loop .inv
@@ -51,7 +51,7 @@ line-blocks-spec =
     loop-holds
     sub-if1
     returns
-    line-ends-requires
+    block-has-requires
     returns-2
     add-i
     loop-less

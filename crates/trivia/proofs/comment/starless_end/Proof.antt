@@ -22,8 +22,8 @@ sub-if1 c = omega arith
 returns : tie.Need-returns Inv-loop μ-loop
 returns c = c .before .before .loop .inv
 
-block-stars-requires : tie.Need-block-stars-requires Inv-loop μ-loop
-block-stars-requires c κs = omega arith
+block-has-requires : tie.Need-block-has-requires Inv-loop μ-loop
+block-has-requires c κs = omega arith
 
 returns-2 : tie.Need-returns-2 Inv-loop μ-loop
 returns-2 c = c .before .before .before .before .loop .inv
@@ -38,7 +38,7 @@ loop-less : tie.Need-loop-less Inv-loop μ-loop
 loop-less c = omega arith
 
 loop-again : tie.Need-loop-again Inv-loop μ-loop
-loop-again c = unmarked-more (c .before .before .before .before .loop .inv) (omega arith) (c .before .block-stars .ensures (c .if2 .left))
+loop-again c = unmarked-more (c .before .before .before .before .loop .inv) (omega arith) (c .before .block-has .ensures (c .if2 .left))
 
 returns-3 : tie.Need-returns-3 Inv-loop μ-loop
 returns-3 c = c .before .loop .inv
@@ -52,7 +52,7 @@ starless-end-spec =
     loop-holds
     sub-if1
     returns
-    block-stars-requires
+    block-has-requires
     returns-2
     sub-i
     add-i

@@ -1,27 +1,27 @@
--- The invariant: unless one was found, no line ends in the bytes looked at.
+-- The invariant: unless one was found, neither byte stands in the bytes looked at.
 use mathlib.Core.Path.{_≡_}
 use mathlib.Core.Bool.{false}
 use Prim.Native.Nat.{_+_, _-_, _≤_}
 use native.Mathlib.Omega.{arith}
-use Rattle.trivia.specs.Piece.{ends-at, Clear}
+use Rattle.trivia.specs.Piece.{either-at, Clear}
 use Rattle.trivia.proofs.Clear.{clear-none, clear-found, clear-to}
-use Rattle.trivia.proofs.comment.line_ends.Statement.{statement}
-use Rattle.trivia.proofs.comment.line_ends.Tie as tie
+use Rattle.trivia.proofs.comment.block_has.Statement.{statement}
+use Rattle.trivia.proofs.comment.block_has.Tie as tie
 
 abbrev Inv-loop : tie.InvT-loop
-Inv-loop s at found₀ j₀ found j = (j ≤ 16) × (found ≡ false → Clear (ends-at s) at (at + j))
+Inv-loop s at a b found₀ j₀ found j = (j ≤ 16) × (found ≡ false → Clear (either-at a b s) at (at + j))
 
 abbrev μ-loop : tie.MeasureT-loop
-μ-loop s at found₀ j₀ found j = 16 - j
+μ-loop s at a b found₀ j₀ found j = 16 - j
 
 loop-holds : tie.Need-loop-holds Inv-loop μ-loop
 loop-holds c = (omega arith, λ e. clear-none _ _ (omega arith))
 
-add-b : tie.Need-add-b Inv-loop μ-loop
-add-b c = omega arith
+add-x : tie.Need-add-x Inv-loop μ-loop
+add-x c = omega arith
 
-shared-slice-read-b : tie.Need-shared-slice-read-b Inv-loop μ-loop
-shared-slice-read-b c = omega arith
+shared-slice-read-x : tie.Need-shared-slice-read-x Inv-loop μ-loop
+shared-slice-read-x c = omega arith
 
 add-j : tie.Need-add-j Inv-loop μ-loop
 add-j c = omega arith
@@ -35,15 +35,15 @@ loop-again c = (omega arith, λ e. clear-found _ (c .before .before .loop .inv .
 returns : tie.Need-returns Inv-loop μ-loop
 returns c = λ e. clear-to (c .before .loop .inv .1 e) (omega arith)
 
-pub line-ends-spec : {M : Type 1} → statement M
-line-ends-spec =
+pub block-has-spec : {M : Type 1} → statement M
+block-has-spec =
     tie.close
     (tie.spec
     Inv-loop
     μ-loop
     loop-holds
-    add-b
-    shared-slice-read-b
+    add-x
+    shared-slice-read-x
     add-j
     loop-less
     loop-again
