@@ -6,7 +6,7 @@
 #include "../library/vireopatch.h"
 
 #define LONGEST 65536
-#define RUNS 60
+#define RUNS 150
 
 struct tables {
     uint32_t *rows, *errors, *requests;
