@@ -26,9 +26,6 @@ pub left-end : (s : List ℕ) (d p i : ℕ) → length s ≤ i → left s d p i 
 unfolding left
 left-end s d p i h = ap (λ t. close-of i (comment d p t)) (drop-of-length-le s h)
 
-pub left-both : (s : List ℕ) (d p q i : ℕ) → length s ≤ i → left s d p i ≡ left s d q i
-left-both s d p q i h = left-end s d p i h ∙ sym (left-end s d q i h)
-
 pub left-step : (s : List ℕ) (d i : ℕ) → i < length s → left s d 0 i ≡ left s d (getD s i 0) (i + 1)
 unfolding left
 left-step s d i h = ap (λ t. close-of i (comment d 0 t)) (cons s i h) ∙ close-plus i 1 (comment d (getD s i 0) (drop (i + 1) s))

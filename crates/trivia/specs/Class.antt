@@ -29,6 +29,10 @@ classes =
 abbrev pub member : ℕ → ℕ → Bool
 member c = getD classes c (λ b. false)
 
+-- a line comment's text
+abbrev pub in-line : ℕ → Bool
+in-line b = not (line-end b)
+
 -- the bit c of an entry of the table
 abbrev pub bit : ℕ → ℕ → Bool
 bit mask c = eqb (mask / 2 ^ c % 2) 1

@@ -10,7 +10,7 @@ use Rattle.trivia.proofs.comment.block_closes.Statement.{statement}
 use Rattle.trivia.proofs.comment.block_closes.Tie as tie
 
 abbrev Inv-loop : tie.InvT-loop
-Inv-loop s at found₀ j₀ found j = (j ≤ 64) × (found ≡ false → Clear (closes-at s) at (at + j))
+Inv-loop s at found₀ j₀ found j = (j ≤ 64) × (found ≡ false → Clear (closes-at s) (at .0) (at .0 + j))
 
 abbrev μ-loop : tie.MeasureT-loop
 μ-loop s at found₀ j₀ found j = 64 - j
@@ -40,7 +40,7 @@ loop-less : tie.Need-loop-less Inv-loop μ-loop
 loop-less c = omega arith
 
 loop-again : tie.Need-loop-again Inv-loop μ-loop
-loop-again c = (omega arith, λ e. clear-found _ (c .before .before .before .loop .inv .1) (omega arith) e)
+loop-again c = (omega arith, λ e. clear-found _ (c .before .before .before .before .before .loop .inv .1) (omega arith) e)
 
 returns : tie.Need-returns Inv-loop μ-loop
 returns c = λ e. clear-to (c .before .loop .inv .1 e) (omega arith)

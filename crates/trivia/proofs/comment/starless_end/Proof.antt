@@ -8,10 +8,10 @@ use Rattle.trivia.proofs.comment.starless_end.Statement.{statement}
 use Rattle.trivia.proofs.comment.starless_end.Tie as tie
 
 abbrev Inv-loop : tie.InvT-loop
-Inv-loop s at i₀ i = Unmarked s at i
+Inv-loop s i₀ i = Unmarked s i₀ i
 
 abbrev μ-loop : tie.MeasureT-loop
-μ-loop s at i₀ i = length s - i
+μ-loop s i₀ i = length s - i
 
 loop-holds : tie.Need-loop-holds Inv-loop μ-loop
 loop-holds c = unmarked-none _ _
