@@ -14,7 +14,7 @@ use lib.Seq.{getD-drop}
 use Rattle.reading.specs.Byte.{comment, plus, run}
 use Rattle.cursor.proofs.Places.{run-go}
 use Rattle.trivia.proofs.Marks.{neither, left-step, left-on}
-use Rattle.trivia.specs.Class.{member}
+use Rattle.trivia.specs.Class.{in-line}
 use Rattle.trivia.specs.Piece.{close-of, closed, closes-at, either-at, Clear, left, Unmarked}
 use Rattle.trivia.specs.declared.Close.{Close}
 use Rattle.trivia.specs.declared.Close.the-variants.{At, Open}
@@ -102,8 +102,8 @@ run-over f s i (suc n) h g =
     ∙ ap (λ j. j + run f (drop j s)) (let z : (i + 1) + n ≡ i + suc n = omega arith in z)
 
 -- a line goes on over a block in which none ends
-pub line-over : (s : List ℕ) (i : ℕ) → i + 16 ≤ length s → Clear (either-at 10 13 s) i (i + 16) → i + run (member 8) (drop i s) ≡ (i + 16) + run (member 8) (drop (i + 16) s)
-line-over s i h g = run-over (member 8) s i 16 h (λ j a b. ap not (g .plain j a b))
+pub line-over : (s : List ℕ) (i : ℕ) → i + 16 ≤ length s → Clear (either-at 10 13 s) i (i + 16) → i + run in-line (drop i s) ≡ (i + 16) + run in-line (drop (i + 16) s)
+line-over s i h g = run-over in-line s i 16 h (λ j a b. ap not (g .plain j a b))
 
 -- where no star stands no mark starts: a slash before it is followed by none
 stars-over : (s : List ℕ) (d i n : ℕ) → i + n < length s → Clear (either-at 42 42 s) i (i + n + 1) → left s d 0 i ≡ left s d 0 (i + n)

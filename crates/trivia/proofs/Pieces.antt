@@ -18,7 +18,7 @@ use Rattle.reading.specs.Items.{kinds, item-or, item}
 use Rattle.cursor.specs.Text.{here}
 use Rattle.cursor.proofs.Places.{behind-here, end-here, leaf-within, one-of-is, one-of-end, run-end, run-stop, run-go, run-within, at-least-one-is, begins-end, begins-at}
 use Rattle.table.specs.declared.Pos.{Pos}
-use Rattle.trivia.specs.Class.{member}
+use Rattle.trivia.specs.Class.{in-line}
 use Rattle.trivia.specs.Piece.{close-of, closed, item-of, summary-of, item-for, kept, Bounded, Starts}
 use Rattle.trivia.specs.declared.Close.{Close}
 use Rattle.trivia.specs.declared.Close.the-variants.{At, Open}
@@ -76,7 +76,7 @@ module _ (s : List ℕ) (i : ℕ) where
   unfolding cpp-comment
   line-no e τ l = rw e
 
-  module _ (e : begins (47 ∷ 47 ∷ []) (drop i s) ≡ true) (n : ℕ) (f : run (member 8) (drop (i + 2) s) ≡ n) where
+  module _ (e : begins (47 ∷ 47 ∷ []) (drop i s) ≡ true) (n : ℕ) (f : run in-line (drop (i + 2) s) ≡ n) where
     line-bare : n ≡ 0 → Scanned s i cpp-comment (fails false 0)
     unfolding cpp-comment
     line-bare h τ l = rw (e, drop-drop 2 i s, f, h)
@@ -253,15 +253,15 @@ module _ (s : List ℕ) (i : ℕ) (h : i < length s) where
       pub starts-slash : begins (47 ∷ 47 ∷ []) (drop i s) ≡ false → Starts s i No
       starts-slash d = starts-none s i (no-blank (ap blank q)) b (line-no s i d) no-newline
 
-      module _ (d : begins (47 ∷ 47 ∷ []) (drop i s) ≡ true) (e : Pos) (f : e .0 ≡ i + 2 + run (member 8) (drop (i + 2) s)) where
+      module _ (d : begins (47 ∷ 47 ∷ []) (drop i s) ≡ true) (e : Pos) (f : e .0 ≡ i + 2 + run in-line (drop (i + 2) s)) where
         pub starts-bare : e .0 ≤ i + 2 → Starts s i No
-        starts-bare g = starts-none s i (no-blank (ap blank q)) b (line-bare s i d (run (member 8) (drop (i + 2) s)) refl (omega arith)) no-newline
+        starts-bare g = starts-none s i (no-blank (ap blank q)) b (line-bare s i d (run in-line (drop (i + 2) s)) refl (omega arith)) no-newline
 
         pub starts-line : i + 2 < e .0 → Starts s i (Item 4 e)
         unfolding item kinds trivia-impl
         starts-line g =
-            let n : ℕ = run (member 8) (drop (i + 2) s) in
+            let n : ℕ = run in-line (drop (i + 2) s) in
             let a : Scanned s i cpp-comment (fits [] (here s (e .0)) false 0) = λ τ l. line-is s i d n refl (omega arith) τ l ∙ ap (λ j. fits [] (here s j) false 0) (sym f) in
             starts-item s i 4 e (omega arith) refl (rw (no-blanks (scans 0) 0, closing-no s i b (scans 0) 0, opening-no s i b (scans 0) 0, a (scans 0) 0))
             (λ τ l. rw (no-blanks τ l, block-no s i b τ l, a τ l)) (omega arith)
-            (rw f (run-within (member 8) s (i + 2) (leaf-within (tag (47 ∷ 47 ∷ [])) s i 2 (omega arith) (ap (λ x. given x 2) d))))
+            (rw f (run-within in-line s (i + 2) (leaf-within (tag (47 ∷ 47 ∷ [])) s i 2 (omega arith) (ap (λ x. given x 2) d))))

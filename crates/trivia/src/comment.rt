@@ -6,7 +6,7 @@ ghost use mathlib.Core.Bool.{false};
 ghost use Prim.Native.Nat.{_+_, _≤_, _<_};
 ghost use lib.ListN.{length, drop};
 ghost use Rattle.reading.specs.Byte.{run};
-ghost use Rattle.trivia.specs.Class.{member};
+ghost use Rattle.trivia.specs.Class.{in-line};
 ghost use Rattle.trivia.specs.Piece.{closed, closes-at, either-at, Clear, Unmarked};
 
 // How many bytes are looked at together, of a text and of a line.
@@ -142,7 +142,7 @@ pub fn c_comment(s: &[u8], at: Pos) -> Close
 
 // The end of the blocks from here on in which no line ends; the line goes on there.
 fn line_blocks(s: &[u8], at: usize) -> usize
-    ensures { λ r. ⌜ at + run (member 8) (drop at (now (s .entry))) ≡ r + run (member 8) (drop r (now (s .entry))) ⌝ }
+    ensures { λ r. ⌜ at + run in-line (drop at (now (s .entry))) ≡ r + run in-line (drop r (now (s .entry))) ⌝ }
 {
     let mut i = at;
     while i < s.len() {
@@ -159,7 +159,7 @@ fn line_blocks(s: &[u8], at: usize) -> usize
 
 // The end of the line.
 pub fn line_end(s: &[u8], at: Pos) -> Pos
-    ensures { λ r. ⌜ r .0 ≡ at .0 + run (member 8) (drop (at .0) (now (s .entry))) ⌝ }
+    ensures { λ r. ⌜ r .0 ≡ at .0 + run in-line (drop (at .0) (now (s .entry))) ⌝ }
 {
     let mut i = line_blocks(s, at.0);
     while i < s.len() {

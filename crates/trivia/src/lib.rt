@@ -1,5 +1,4 @@
 // Trivia: classes of bytes, runs, comments, the items of trivia, and the call that lists them.
-use class::CLASS;
 use cursor::Skip;
 use reading::MAX_TEXT;
 use table::Pos;
@@ -15,30 +14,22 @@ ghost use Rattle.reading.specs.Table.{first-high};
 ghost use Rattle.reading.specs.Items.{trivia-items};
 ghost use Rattle.cursor.specs.Text.{Skips};
 ghost use Rattle.trivia.specs.Answers.{told, listed, high-of, Lists};
-ghost use Rattle.trivia.specs.Class.{bit, member, name-run};
+ghost use Rattle.trivia.specs.Class.{among, starts, goes, name-run};
 ghost use Rattle.trivia.specs.Piece.{Starts, Nothing, trivia-of};
 
 pub mod class;
 mod comment;
 pub mod kind;
 
-// The bit of the class in an entry of the table.
-fn has(mask: u16, class: u32) -> bool
-    requires { ⌜ class < 16 ⌝ }
-    ensures { λ r. ⌜ r ≡ bit mask class ⌝ }
+// The end of the run that starts here, of bytes of the class, or of bytes that are not of it.
+pub fn run_end(s: &[u8], at: Pos, class: u32, inside: bool) -> Pos
+    requires { ⌜ class < 8 ⌝ }
+    ensures { λ r. ⌜ r .0 ≡ at .0 + run (among class inside) (drop (at .0) (now (s .entry))) ⌝ }
 {
-    (mask >> class) % 2 == 1
-}
-
-// The end of the run of the class that starts here. The table is set up once, not for each byte.
-pub fn run_end(s: &[u8], at: Pos, class: u32) -> Pos
-    requires { ⌜ class < 16 ⌝ }
-    ensures { λ r. ⌜ r .0 ≡ at .0 + run (member class) (drop (at .0) (now (s .entry))) ⌝ }
-{
-    let masks = CLASS;
+    let masks = class::masks();
     let mut i = at.0;
     while i < s.len() {
-        if !has(masks[s[i] as usize], class) {
+        if !class::among(&masks, s[i], class, inside) {
             return Pos(i);
         }
         i += 1;
@@ -46,22 +37,21 @@ pub fn run_end(s: &[u8], at: Pos, class: u32) -> Pos
     Pos(i)
 }
 
-// The end of what starts here with a byte of the first class and goes on with bytes of the second; `at` where nothing does.
-pub fn name_end(s: &[u8], at: Pos, start: u32, class: u32) -> Pos
-    requires { ⌜ (start < 16) × (class < 16) ⌝ }
-    ensures { λ r. ⌜ r .0 ≡ at .0 + name-run (member start) (member class) (drop (at .0) (now (s .entry))) ⌝ }
+// The end of the name that starts here, in which `also` may stand beside letters and digits; `at` where none does.
+pub fn name_end(s: &[u8], at: Pos, also: u8) -> Pos
+    ensures { λ r. ⌜ r .0 ≡ at .0 + name-run (starts also) (goes also) (drop (at .0) (now (s .entry))) ⌝ }
 {
-    let masks = CLASS;
+    let masks = class::masks();
     let mut i = at.0;
     if s.len() <= i {
         return at;
     }
-    if !has(masks[s[i] as usize], start) {
+    if !class::starts_name(&masks, s[i], also) {
         return at;
     }
     i += 1;
     while i < s.len() {
-        if !has(masks[s[i] as usize], class) {
+        if !class::goes_on(&masks, s[i], also) {
             return Pos(i);
         }
         i += 1;

@@ -4,13 +4,13 @@ use Prim.Native.Nat.{_+_, _-_}
 use native.Mathlib.Omega.{arith}
 use lib.ListN.{length, drop}
 use Rattle.reading.specs.Byte.{run}
-use Rattle.trivia.specs.Class.{member}
+use Rattle.trivia.specs.Class.{in-line}
 use Rattle.trivia.proofs.Clear.{line-over}
 use Rattle.trivia.proofs.comment.line_blocks.Statement.{statement}
 use Rattle.trivia.proofs.comment.line_blocks.Tie as tie
 
 abbrev Inv-loop : tie.InvT-loop
-Inv-loop s at i₀ i = at + run (member 8) (drop at s) ≡ i + run (member 8) (drop i s)
+Inv-loop s at i₀ i = at + run in-line (drop at s) ≡ i + run in-line (drop i s)
 
 abbrev μ-loop : tie.MeasureT-loop
 μ-loop s at i₀ i = length s - i
