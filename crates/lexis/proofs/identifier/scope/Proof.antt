@@ -25,23 +25,25 @@ returns-3 c =
     scope-at _ _ (c .before .before .before .if1 .left) (not-false _ (c .before .if2 .left)) (never-no (one-end alphanumeric _ _
     (c .if3 .taken)) _ refl)
 
+masks-requires : tie.Need-masks-requires
+masks-requires c κs = search needs
+
 shared-slice-read-alphanumeric : tie.Need-shared-slice-read-alphanumeric
 shared-slice-read-alphanumeric c = search needs
 
 alphanumeric-requires : tie.Need-alphanumeric-requires
-alphanumeric-requires c κs = search needs
+alphanumeric-requires c κs = c .before .before .masks .ensures
 
 returns-4 : tie.Need-returns-4
 returns-4 c =
-    scope-at _ _ (c .before .before .before .before .before .before .if1 .left) (not-false _ (c .before .before .before .before .if2 .left))
-    (never-at tt (one-at alphanumeric _ _ (c .before .before .before .if3 .left) (sym (c .before .alphanumeric .ensures) ∙ c .if4 .taken)
+    scope-at _ _ (c .before .before .before .before .before .before .before .before .if1 .left) (not-false _ (c .before .before .before .before .before .before .if2 .left))
+    (never-at tt (one-at alphanumeric _ _ (c .before .before .before .before .before .if3 .left) (sym (c .before .alphanumeric .ensures) ∙ c .if4 .taken)
     (record { 0 = _ }) refl))
 
 returns-5 : tie.Need-returns-5
 returns-5 c =
-    scope-at _ _ (c .before .before .before .before .before .before .if1 .left) (not-false _ (c .before .before .before .before .if2 .left))
-    (never-no (one-no alphanumeric _ _ (c .before .before .before .if3 .left) (sym
-    (c .before .alphanumeric .ensures) ∙ c .if4 .left)) _ refl)
+    scope-at _ _ (c .before .before .before .before .before .before .before .before .if1 .left) (not-false _ (c .before .before .before .before .before .before .if2 .left))
+    (never-no (one-no alphanumeric _ _ (c .before .before .before .before .before .if3 .left) (sym (c .before .alphanumeric .ensures) ∙ c .if4 .left)) _ refl)
 
 pub scope-spec : {M : Type 1} → statement M
 scope-spec =
@@ -52,6 +54,7 @@ scope-spec =
     returns-2
     add-j
     returns-3
+    masks-requires
     shared-slice-read-alphanumeric
     alphanumeric-requires
     returns-4
