@@ -31,7 +31,8 @@ fn scope(s: &[u8], at: Pos) -> Found
     if s.len() <= j {
         return Found::At(Pos(j));
     }
-    if class::alphanumeric(&class::masks(), s[j]) {
+    let next = s[j];
+    if class::letter(next) | class::digit(next) {
         return Found::No;
     }
     Found::At(Pos(j))

@@ -41,7 +41,7 @@ fn numeral(s: &[u8], at: Pos) -> Found
     ensures { λ r. ⌜ Finds numeral (now (s .entry)) (at .0) r ⌝ }
 {
     let i = at.0;
-    let e = trivia::run_end(s, at, class::DIGIT, true);
+    let e = trivia::digits_end(s, at);
     if i < e.0 {
         return Found::At(e);
     }

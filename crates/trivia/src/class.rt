@@ -1,8 +1,7 @@
 // The classes of bytes: their numbers, and the table that has a bit for each. Here bytes are told apart.
 ghost use mathlib.Core.Path.{_≡_};
 ghost use Prim.Native.Nat.{_<_};
-ghost use Rattle.reading.specs.Byte.{alphanumeric};
-ghost use Rattle.trivia.specs.Class.{table, member, among, starts, goes};
+ghost use Rattle.trivia.specs.Class.{table, member, among, goes};
 
 pub const BLANK: u32 = 0;
 
@@ -320,26 +319,29 @@ pub fn among(masks: &[u8; 256], b: u8, class: u32, inside: bool) -> bool
     of_class(masks, b, class) == inside
 }
 
-// The byte begins a name: a letter, or the byte `also`, which is `_` in names and `-` in config keys.
-pub fn starts_name(masks: &[u8; 256], b: u8, also: u8) -> bool
-    requires { ⌜ now masks ≡ table ⌝ }
-    ensures { λ r. ⌜ r ≡ starts also b ⌝ }
-{
-    of_class(masks, b, LETTER) | (b == also)
-}
-
-// A letter or a digit.
-pub fn alphanumeric(masks: &[u8; 256], b: u8) -> bool
-    requires { ⌜ now masks ≡ table ⌝ }
-    ensures { λ r. ⌜ r ≡ alphanumeric b ⌝ }
-{
-    of_class(masks, b, LETTER) | of_class(masks, b, DIGIT)
-}
-
-// The byte goes on in a name.
+// The byte goes on in a name: a letter, a digit, or the byte `also`, which is `_` in names and `-` in config keys.
 pub fn goes_on(masks: &[u8; 256], b: u8, also: u8) -> bool
     requires { ⌜ now masks ≡ table ⌝ }
     ensures { λ r. ⌜ r ≡ goes also b ⌝ }
 {
-    alphanumeric(masks, b) | (b == also)
+    (of_class(masks, b, LETTER) | of_class(masks, b, DIGIT)) | (b == also)
+}
+
+// Three classes by comparisons, for a single byte, where to set up the table would cost more. Each promises what the table says.
+pub fn blank(b: u8) -> bool
+    ensures { λ r. ⌜ r ≡ member 0 b ⌝ }
+{
+    (b == b' ') | (b == b'\t')
+}
+
+pub fn letter(b: u8) -> bool
+    ensures { λ r. ⌜ r ≡ member 1 b ⌝ }
+{
+    ((b'a' <= b) & (b <= b'z')) | ((b'A' <= b) & (b <= b'Z'))
+}
+
+pub fn digit(b: u8) -> bool
+    ensures { λ r. ⌜ r ≡ member 2 b ⌝ }
+{
+    (b'0' <= b) & (b <= b'9')
 }

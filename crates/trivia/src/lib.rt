@@ -8,7 +8,7 @@ ghost use mathlib.Core.List.{[], _∷_};
 ghost use mathlib.Core.Option.{none};
 ghost use Prim.Native.Nat.{_+_, _≤_, _<_};
 ghost use lib.ListN.{length, drop, getD};
-ghost use Rattle.reading.specs.Byte.{blank, run, begins};
+ghost use Rattle.reading.specs.Byte.{blank, digit, run, begins};
 ghost use Rattle.reading.specs.Rules.{trivia, multiline-trivia};
 ghost use Rattle.reading.specs.Table.{first-high};
 ghost use Rattle.reading.specs.Items.{trivia-items};
@@ -41,14 +41,15 @@ pub fn run_end(s: &[u8], at: Pos, class: u32, inside: bool) -> Pos
 pub fn name_end(s: &[u8], at: Pos, also: u8) -> Pos
     ensures { λ r. ⌜ r .0 ≡ at .0 + name-run (starts also) (goes also) (drop (at .0) (now (s .entry))) ⌝ }
 {
-    let masks = class::masks();
     let mut i = at.0;
     if s.len() <= i {
         return at;
     }
-    if !class::starts_name(&masks, s[i], also) {
+    let b = s[i];
+    if !(class::letter(b) | (b == also)) {
         return at;
     }
+    let masks = class::masks();
     i += 1;
     while i < s.len() {
         if !class::goes_on(&masks, s[i], also) {
@@ -57,6 +58,20 @@ pub fn name_end(s: &[u8], at: Pos, also: u8) -> Pos
         i += 1;
     }
     Pos(i)
+}
+
+// The end of the digits that start here. Most often there is none, which the first byte tells.
+pub fn digits_end(s: &[u8], at: Pos) -> Pos
+    ensures { λ r. ⌜ r .0 ≡ at .0 + run digit (drop (at .0) (now (s .entry))) ⌝ }
+{
+    let i = at.0;
+    if s.len() <= i {
+        return at;
+    }
+    if !class::digit(s[i]) {
+        return at;
+    }
+    run_end(s, at, class::DIGIT, true)
 }
 
 // Where a comment ends, or that the text ends first.
@@ -120,19 +135,18 @@ fn comment_item(s: &[u8], at: Pos) -> Piece
     Piece::No
 }
 
-// The end of the blanks that go on here. Two bytes are compared; the table of classes would be set up anew for each run.
+// The end of the blanks that go on here. Most often a blank stands alone, which the next byte tells.
 fn blanks_end(s: &[u8], at: Pos) -> Pos
     ensures { λ r. ⌜ r .0 ≡ at .0 + run blank (drop (at .0) (now (s .entry))) ⌝ }
 {
-    let mut i = at.0;
-    while i < s.len() {
-        let b = s[i];
-        if !((b == b' ') | (b == b'\t')) {
-            return Pos(i);
-        }
-        i += 1;
+    let i = at.0;
+    if s.len() <= i {
+        return at;
     }
-    Pos(i)
+    if !class::blank(s[i]) {
+        return at;
+    }
+    run_end(s, at, class::BLANK, true)
 }
 
 // What starts here. Most bytes stand above the space and start nothing; they are answered first.
@@ -184,6 +198,9 @@ fn skip(s: &[u8], at: Pos, met: bool, lines: bool) -> Skip
         }
         i = end.0;
         m = m | (kind == kind::UNTERMINATED);
+        if bare(s, Pos(i), lines) {
+            return Skip { at: Pos(i), met: m };
+        }
     }
 }
 

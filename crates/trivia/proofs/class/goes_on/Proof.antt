@@ -1,16 +1,19 @@
--- A letter, a digit, or the other byte.
-use mathlib.Core.Path.{ap}
+-- A letter and a digit by their classes, or the other byte.
+use mathlib.Core.Path.{ap₂}
 use mathlib.Core.Bool.{_||_}
 use borrow.Author.Needs.{needs}
 use lib.Dec.{eqb}
 use Rattle.trivia.proofs.class.goes_on.Statement.{statement}
 use Rattle.trivia.proofs.class.goes_on.Tie as tie
 
-alphanumeric-requires : tie.Need-alphanumeric-requires
-alphanumeric-requires c κs = search needs
+of-class-requires : tie.Need-of-class-requires
+of-class-requires c κs = search needs
+
+of-class-requires-2 : tie.Need-of-class-requires-2
+of-class-requires-2 c κs = search needs
 
 returns : tie.Need-returns
-returns c = ap (_|| eqb (c .before .args .b) (c .before .args .also)) (c .alphanumeric .ensures)
+returns c = ap₂ (λ x y. (x || y) || eqb (c .before .before .args .b) (c .before .before .args .also)) (c .before .of-class .ensures) (c .of-class2 .ensures)
 
 pub goes-on-spec : {M : Type 1} → statement M
-goes-on-spec = tie.close (tie.spec alphanumeric-requires returns)
+goes-on-spec = tie.close (tie.spec of-class-requires of-class-requires-2 returns)
