@@ -88,11 +88,11 @@ module _ (class : ℕ) {s : List ℕ} {c : Cursor} {st : Counts} (fit : Fit 0 s 
         };
       }
 
-pub error-is : {s : List ℕ} {c : Cursor} {st : Counts} {t t₁ e e₁ : List ℕ} {r : Done} → TellsLeaf (error-of 9) s c st t t₁ e e₁ r → TellsLeaf error s c st t t₁ e e₁ r
+pub error-is : {s : List ℕ} {c : Cursor} {st : Counts} {t t₁ e e₁ : List ℕ} {r : Done} → TellsLeaf (error-of 5) s c st t t₁ e e₁ r → TellsLeaf error s c st t t₁ e e₁ r
 unfolding error error-of
 error-is a = a
 
-pub error-in-is : {s : List ℕ} {c : Cursor} {st : Counts} {t t₁ e e₁ : List ℕ} {r : Done} → TellsLeaf (error-of 10) s c st t t₁ e e₁ r
+pub error-in-is : {s : List ℕ} {c : Cursor} {st : Counts} {t t₁ e e₁ : List ℕ} {r : Done} → TellsLeaf (error-of 7) s c st t t₁ e e₁ r
     → TellsLeaf error-in-block s c st t t₁ e e₁ r
 unfolding error-in-block error-of
 error-in-is a = a

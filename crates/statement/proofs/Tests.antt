@@ -1,4 +1,5 @@
 -- What antt computes of the rules that statements are made of: that they are quiet, move, and that their bytes pay for what they do.
+use mathlib.Core.Bool.{false}
 use mathlib.Core.List.{List}
 use Prim.Native.Nat.{ℕ}
 use lib.Dec.{T as Passes}
