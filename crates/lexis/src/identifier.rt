@@ -7,22 +7,13 @@ use cursor::Skip;
 use table::Pos;
 use table::kind;
 use trivia::class;
-ghost use mathlib.Core.Path.{_≡_};
 ghost use Prim.Native.Nat.{_≤_};
 ghost use lib.ListN.{length};
-ghost use Rattle.reading.specs.Byte.{alphanumeric};
 ghost use Rattle.reading.specs.Grammar.{always};
 ghost use Rattle.reading.specs.Kind.{nameᵏ, pathᵏ};
 ghost use Rattle.reading.specs.Rules.{identifier-name, identifier-scope, identifier-path};
 ghost use Rattle.lexis.specs.Behind.{Behind, Placed};
 ghost use Rattle.lexis.specs.Finds.{Finds, identifier, dotted, identifiers};
-
-// A letter or a digit.
-fn alphanumeric(b: u8) -> bool
-    ensures { λ r. ⌜ r ≡ alphanumeric b ⌝ }
-{
-    (((b'a' <= b) & (b <= b'z')) | ((b'A' <= b) & (b <= b'Z'))) | ((b'0' <= b) & (b <= b'9'))
-}
 
 // `-` or `+` with no letter or digit behind it.
 fn scope(s: &[u8], at: Pos) -> Found
@@ -40,7 +31,8 @@ fn scope(s: &[u8], at: Pos) -> Found
     if s.len() <= j {
         return Found::At(Pos(j));
     }
-    if alphanumeric(s[j]) {
+    let next = s[j];
+    if class::letter(next) | class::digit(next) {
         return Found::No;
     }
     Found::At(Pos(j))
@@ -54,7 +46,7 @@ fn identifier(s: &[u8], at: Pos) -> Found
     let Found::No = f else {
         return f;
     };
-    mark::name_end(s, at, class::NAME_START, class::NAME_BYTE)
+    mark::name_end(s, at, b'_')
 }
 
 // An identifier behind a dot.
@@ -92,15 +84,7 @@ pub fn name(s: &[u8], c: Cursor, k: Skip, rows: &mut [u32]) -> Read
     requires { ⌜ Placed (now s) c k ⌝ }
     ensures { λ r. ⌜ Behind nameᵏ (always 0) identifier-name (now (s .entry)) c k (now (rows .entry)) (now (rows .exit)) r ⌝ }
 {
-    mark::name(
-        s,
-        c,
-        k,
-        class::NAME_START,
-        class::NAME_BYTE,
-        kind::NAME,
-        rows,
-    )
+    mark::name(s, c, k, b'_', kind::NAME, rows)
 }
 
 // A path with its row. It begins with trivia of its own, which is in the row's body.

@@ -10,7 +10,7 @@ ghost use Prim.Native.Nat.{_^_, _<_};
 ghost use Rattle.reading.specs.Byte.{is};
 ghost use Rattle.reading.specs.Grammar.{leaf, one, run0, run1, tag-no-case, _▸_, always};
 ghost use Rattle.reading.specs.Kind.{charᵏ};
-ghost use Rattle.trivia.specs.Class.{member};
+ghost use Rattle.trivia.specs.Class.{among, starts, goes};
 ghost use Rattle.lexis.specs.Behind.{Behind, Placed, Rowed};
 ghost use Rattle.lexis.specs.Finds.{Finds};
 
@@ -40,12 +40,11 @@ pub fn char(s: &[u8], c: Cursor, k: Skip, b: u8, rows: &mut [u32]) -> Read
     Read::Miss(k.met)
 }
 
-// One byte of the first class, and a run of the second.
-pub fn name_end(s: &[u8], at: Pos, start: u32, class: u32) -> Found
-    requires { ⌜ (start < 16) × (class < 16) ⌝ }
-    ensures { λ r. ⌜ Finds (leaf (one (member start)) ▸ leaf (run0 (member class))) (now (s .entry)) (at .0) r ⌝ }
+// Letters and digits, the first no digit, and among them the byte `also`: `_` in a name, `-` in a config key.
+pub fn name_end(s: &[u8], at: Pos, also: u8) -> Found
+    ensures { λ r. ⌜ Finds (leaf (one (starts also)) ▸ leaf (run0 (goes also))) (now (s .entry)) (at .0) r ⌝ }
 {
-    let e = trivia::name_end(s, at, start, class);
+    let e = trivia::name_end(s, at, also);
     if e.0 == at.0 {
         return Found::No;
     }
@@ -53,34 +52,34 @@ pub fn name_end(s: &[u8], at: Pos, start: u32, class: u32) -> Found
 }
 
 // The same with its row: a name, a config key.
-pub fn name(
-    s: &[u8],
-    c: Cursor,
-    k: Skip,
-    start: u32,
-    class: u32,
-    kind: usize,
-    rows: &mut [u32],
-) -> Read
+pub fn name(s: &[u8], c: Cursor, k: Skip, also: u8, kind: usize, rows: &mut [u32]) -> Read
     requires { ⌜ Placed (now s) c k ⌝ }
-    requires { ⌜ (start < 16) × (class < 16) × (kind < 2 ^ 32) ⌝ }
-    ensures { λ r. ⌜ Behind kind (always 0) (leaf (one (member start)) ▸ leaf (run0 (member class))) (now (s .entry)) c k (now (rows .entry)) (now (rows .exit)) r ⌝ }
+    requires { ⌜ kind < 2 ^ 32 ⌝ }
+    ensures { λ r. ⌜ Behind kind (always 0) (leaf (one (starts also)) ▸ leaf (run0 (goes also))) (now (s .entry)) c k (now (rows .entry)) (now (rows .exit)) r ⌝ }
 {
-    let f = name_end(s, k.at, start, class);
+    let f = name_end(s, k.at, also);
     let Found::At(high) = f else {
         return Read::Miss(k.met);
     };
     row(c, k, high, kind, 0, rows)
 }
 
-// A run of a class, of one byte at least: digits, a string's piece, error text.
-pub fn run(s: &[u8], c: Cursor, k: Skip, class: u32, kind: usize, rows: &mut [u32]) -> Read
+// A run of one byte at least, of the bytes of a class (digits) or of those that are not of it (a string's piece, error text).
+pub fn run(
+    s: &[u8],
+    c: Cursor,
+    k: Skip,
+    class: u32,
+    inside: bool,
+    kind: usize,
+    rows: &mut [u32],
+) -> Read
     requires { ⌜ Placed (now s) c k ⌝ }
-    requires { ⌜ (class < 16) × (kind < 2 ^ 32) ⌝ }
-    ensures { λ r. ⌜ Behind kind (always 0) (leaf (run1 (member class))) (now (s .entry)) c k (now (rows .entry)) (now (rows .exit)) r ⌝ }
+    requires { ⌜ (class < 8) × (kind < 2 ^ 32) ⌝ }
+    ensures { λ r. ⌜ Behind kind (always 0) (leaf (run1 (among class inside))) (now (s .entry)) c k (now (rows .entry)) (now (rows .exit)) r ⌝ }
 {
     let low = k.at;
-    let high = trivia::run_end(s, low, class);
+    let high = trivia::run_end(s, low, class, inside);
     if high.0 <= low.0 {
         return Read::Miss(k.met);
     }

@@ -13,7 +13,7 @@ use Rattle.reading.specs.Grammar.{one, run1, Parser, empty, _▸_, many0, leaf,
 use Rattle.reading.specs.Kind.{charᵏ, pieceᵏ, pathᵏ, stringᵏ}
 use Rattle.reading.specs.Rules.{byte, char, located′, trivia, identifier-path, piece, interpolation, quoted, interpolated-string, quoted-string, all-rules}
 use Rattle.reading.specs.Table.{row-width}
-use Rattle.trivia.specs.Class.{member}
+use Rattle.trivia.specs.Class.{among}
 use Rattle.table.specs.Words.{pushed, row-record}
 use Rattle.cursor.proofs.Agree.{got-miss}
 use Rattle.cursor.proofs.Laws.{moved, Stepped, stepped, reading-to, skips-empty, seq-out, seq-got, or-miss, or-first, over-out, over-no, over-got}
@@ -99,7 +99,7 @@ module _ {s : List ℕ} {c : Cursor} where
 -- Items ----------------------------------------------------------------------
 
 module _ {s : List ℕ} {c : Cursor} {t t₁ : List ℕ} {r₁ : Read}
-    (h : c .at .0 ≤ length s) (a : Behind pieceᵏ (always 0) (leaf (run1 (member 11))) s c (skip (c .at .0) (c .met)) t t₁ r₁) where
+    (h : c .at .0 ≤ length s) (a : Behind pieceᵏ (always 0) (leaf (run1 (among 6 false))) s c (skip (c .at .0) (c .met)) t t₁ r₁) where
   piece-leafs : Leafs piece s c t t₁ r₁
   unfolding piece
   piece-leafs = a .leafs empty (skips-empty s (c .at .0) (c .met) h)

@@ -24,7 +24,7 @@ ghost use Rattle.literal.specs.Parts.{radix, numeral, decimals, value};
 fn radix(s: &[u8], c: Cursor, k: Skip, mark: u8, ty: usize, class: u32, rows: &mut [u32]) -> Read
     requires { ⌜ Ready 4 (now s) c ⌝ }
     requires { ⌜ Skips trivia (now s) (c .at .0) (c .met) k ⌝ }
-    requires { ⌜ (begins (mark ∷ []) (drop (k .at .0) (now s)) ≡ true) × (class < 16) × (ty < 2 ^ 32) ⌝ }
+    requires { ⌜ (begins (mark ∷ []) (drop (k .at .0) (now s)) ≡ true) × (class < 8) × (ty < 2 ^ 32) ⌝ }
     ensures { λ r. ⌜ Leafs (radix mark ty class) (now (s .entry)) c (now (rows .entry)) (now (rows .exit)) r ⌝ }
 {
     let f = mark::row(c, k, Pos(k.at.0 + 1), kind::NUMBER_TYPE, ty, rows);
@@ -32,7 +32,7 @@ fn radix(s: &[u8], c: Cursor, k: Skip, mark: u8, ty: usize, class: u32, rows: &m
         return f;
     };
     let j = trivia::trivia(s, d.at, d.met);
-    mark::run(s, d, j, class, kind::NUMBER_TEXT, rows)
+    mark::run(s, d, j, class, true, kind::NUMBER_TEXT, rows)
 }
 
 // Where digits, `true` or `false` end. No end of a word is asked for.
@@ -41,7 +41,7 @@ fn numeral(s: &[u8], at: Pos) -> Found
     ensures { λ r. ⌜ Finds numeral (now (s .entry)) (at .0) r ⌝ }
 {
     let i = at.0;
-    let e = trivia::run_end(s, at, class::DIGIT);
+    let e = trivia::digits_end(s, at);
     if i < e.0 {
         return Found::At(e);
     }

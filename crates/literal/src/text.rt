@@ -52,7 +52,8 @@ fn item(s: &[u8], c: Cursor, interpolated: bool, rows: &mut [u32]) -> Read
         s,
         c,
         Skip { at, met: c.met },
-        class::PIECE_TEXT,
+        class::ENDS_PIECE,
+        false,
         kind::PIECE,
         rows,
     );

@@ -85,15 +85,7 @@ fn config_key(s: &[u8], c: Cursor, k: Skip, rows: &mut [u32]) -> Read
     requires { ⌜ Skips multiline-trivia (now s) (c .at .0) (c .met) k ⌝ }
     ensures { λ r. ⌜ Leafs (mws wordᵏ 0 config-key) (now (s .entry)) c (now (rows .entry)) (now (rows .exit)) r ⌝ }
 {
-    lexis::mark::name(
-        s,
-        c,
-        k,
-        trivia::class::KEY_START,
-        trivia::class::KEY_BYTE,
-        kind::WORD,
-        rows,
-    )
+    lexis::mark::name(s, c, k, b'-', kind::WORD, rows)
 }
 
 // A byte behind trivia with line ends.

@@ -17,7 +17,7 @@ use Rattle.cursor.specs.declared.Cursor.{Cursor}
 use Rattle.cursor.specs.declared.Skip.{Skip}
 use Rattle.cursor.specs.declared.Read.{Read}
 use Rattle.cursor.proofs.Lows.{low-node}
-use Rattle.trivia.specs.Class.{member}
+use Rattle.trivia.specs.Class.{among}
 use Rattle.lexis.specs.Behind.{Behind, Rowed}
 use Rattle.lexis.proofs.Ends.{run-at}
 use Rattle.lexis.proofs.Marks.{behind-found}
@@ -47,7 +47,7 @@ module _ {s : List ℕ} {c : Cursor} {st : Counts} (fit : Fit 0 s c st) {k : Ski
   unfolding mark-of
   mark-tells b a = lift-leaf (mark-quiet b) (fit .within) n (a .leafs multiline-trivia skip)
 
-  pub text-tells : (class : ℕ) → Behind errorᵏ (always 0) (leaf (run1 (member class))) s (cursor (c .at .0) (c .count .0) false) k t t₁ f
+  pub text-tells : (class : ℕ) → Behind errorᵏ (always 0) (leaf (run1 (among class false))) s (cursor (c .at .0) (c .count .0) false) k t t₁ f
       → TellsLeaf (text-of class) s c st t t₁ e e₁ r
   text-tells class a = lift-leaf (text-quiet class) (fit .within) n (a .leafs multiline-trivia skip)
 
@@ -84,15 +84,15 @@ module _ (class : ℕ) {s : List ℕ} {c : Cursor} {st : Counts} (fit : Fit 0 s 
       record {
         does = λ left q₁. record {
           acting = λ l. complain-got (a .does left q₁ .acting l) (text-quiet class) tt (fit .within) (k .at .0)
-              (low-node errorᵏ skip l (always 0) (leaf (run1 (member class)))) d x q report;
+              (low-node errorᵏ skip l (always 0) (leaf (run1 (among class false)))) d x q report;
         };
       }
 
-pub error-is : {s : List ℕ} {c : Cursor} {st : Counts} {t t₁ e e₁ : List ℕ} {r : Done} → TellsLeaf (error-of 9) s c st t t₁ e e₁ r → TellsLeaf error s c st t t₁ e e₁ r
+pub error-is : {s : List ℕ} {c : Cursor} {st : Counts} {t t₁ e e₁ : List ℕ} {r : Done} → TellsLeaf (error-of 5) s c st t t₁ e e₁ r → TellsLeaf error s c st t t₁ e e₁ r
 unfolding error error-of
 error-is a = a
 
-pub error-in-is : {s : List ℕ} {c : Cursor} {st : Counts} {t t₁ e e₁ : List ℕ} {r : Done} → TellsLeaf (error-of 10) s c st t t₁ e e₁ r
+pub error-in-is : {s : List ℕ} {c : Cursor} {st : Counts} {t t₁ e e₁ : List ℕ} {r : Done} → TellsLeaf (error-of 7) s c st t t₁ e e₁ r
     → TellsLeaf error-in-block s c st t t₁ e e₁ r
 unfolding error-in-block error-of
 error-in-is a = a

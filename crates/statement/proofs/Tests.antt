@@ -1,4 +1,5 @@
 -- What antt computes of the rules that statements are made of: that they are quiet, move, and that their bytes pay for what they do.
+use mathlib.Core.Bool.{false}
 use mathlib.Core.List.{List}
 use Prim.Native.Nat.{ℕ}
 use lib.Dec.{T as Passes}
@@ -8,7 +9,7 @@ use Rattle.reading.specs.Rules.{opt, mws, directive, block, block-item, braces,
 use Rattle.reading.specs.Rules.{instruction, variable-definition, const-definition, pc-definition, config-definition, macro-invocation, data′, segment, loop′, if′, align, text, file, test, assert, trace}
 use Rattle.reading.proofs.Tests.{quiet}
 use Rattle.reading.proofs.Moves.{moves}
-use Rattle.trivia.specs.Class.{member}
+use Rattle.trivia.specs.Class.{among}
 use Rattle.state.proofs.Bounds.{sober, settled}
 use Rattle.statement.specs.declared.Body.{Body}
 use Rattle.statement.specs.declared.Body.the-variants.{Maybe, Block, Branches}
@@ -22,7 +23,7 @@ Paid g = Passes (sober g) × Passes (settled g)
 -- Leaves -------------------------------------------------------------------
 
 abbrev pub text-of : ℕ → Parser
-text-of class = mws errorᵏ 0 (leaf (run1 (member class)))
+text-of class = mws errorᵏ 0 (leaf (run1 (among class false)))
 
 pub text-quiet : (class : ℕ) → Passes (quiet (text-of class))
 unfolding all-rules

@@ -9,7 +9,7 @@ use Rattle.reading.specs.Grammar.{Rows, State, Input, ok, run1, one, Parser, _�
 use Rattle.reading.specs.Rules.{opt, mws, directive, block}
 use Rattle.reading.specs.Table.{row-width, request-width}
 use Rattle.table.specs.Words.{pushed, row-record, request-record}
-use Rattle.trivia.specs.Class.{member}
+use Rattle.trivia.specs.Class.{among}
 use Rattle.cursor.specs.Text.{here, cursor}
 use Rattle.cursor.specs.declared.Cursor.{Cursor}
 use Rattle.cursor.specs.declared.Skip.{Skip}
@@ -28,7 +28,7 @@ unfoldable pub mark-of : ℕ → Parser
 mark-of b = mws charᵏ b (leaf (one (is b)))
 
 unfoldable pub error-of : ℕ → Parser
-error-of class = complain (mws errorᵏ 0 (leaf (run1 (member class))))
+error-of class = complain (mws errorᵏ 0 (leaf (run1 (among class false))))
 
 -- Quiet readers ------------------------------------------------------------
 

@@ -12,7 +12,7 @@ ghost use Rattle.reading.specs.Rules.{error, error-in-block, eof};
 ghost use Rattle.state.specs.Acts.{Fit, TellsLeaf};
 ghost use Rattle.statement.specs.Shapes.{error-of};
 
-// A run of the class, which is reported.
+// Text up to a byte of the class, which is reported.
 fn error_text(
     s: &[u8],
     c: Cursor,
@@ -22,7 +22,7 @@ fn error_text(
     errors: &mut [u32],
 ) -> Done
     requires { ⌜ Fit 0 (now s) c st ⌝ }
-    requires { ⌜ class < 16 ⌝ }
+    requires { ⌜ class < 8 ⌝ }
     ensures { λ r. ⌜ TellsLeaf (error-of class) (now (s .entry)) c st (now (rows .entry)) (now (rows .exit)) (now (errors .entry)) (now (errors .exit)) r ⌝ }
 {
     let at = c.at;
@@ -37,6 +37,7 @@ fn error_text(
         },
         k,
         class,
+        false,
         kind::ERROR,
         rows,
     );
@@ -54,14 +55,14 @@ pub fn error(s: &[u8], c: Cursor, st: State, rows: &mut [u32], errors: &mut [u32
     requires { ⌜ Fit 0 (now s) c st ⌝ }
     ensures { λ r. ⌜ TellsLeaf error (now (s .entry)) c st (now (rows .entry)) (now (rows .exit)) (now (errors .entry)) (now (errors .exit)) r ⌝ }
 {
-    error_text(s, c, st, class::ERROR_TEXT, rows, errors)
+    error_text(s, c, st, class::ENDS_ERROR, rows, errors)
 }
 
 pub fn error_in_block(s: &[u8], c: Cursor, st: State, rows: &mut [u32], errors: &mut [u32]) -> Done
     requires { ⌜ Fit 0 (now s) c st ⌝ }
     ensures { λ r. ⌜ TellsLeaf error-in-block (now (s .entry)) c st (now (rows .entry)) (now (rows .exit)) (now (errors .entry)) (now (errors .exit)) r ⌝ }
 {
-    error_text(s, c, st, class::ERROR_TEXT_IN_BLOCK, rows, errors)
+    error_text(s, c, st, class::ENDS_ERROR_IN_BLOCK, rows, errors)
 }
 
 // All that is left, behind trivia.

@@ -1,5 +1,4 @@
 // Trivia: classes of bytes, runs, comments, the items of trivia, and the call that lists them.
-use class::CLASS;
 use cursor::Skip;
 use reading::MAX_TEXT;
 use table::Pos;
@@ -9,36 +8,28 @@ ghost use mathlib.Core.List.{[], _∷_};
 ghost use mathlib.Core.Option.{none};
 ghost use Prim.Native.Nat.{_+_, _≤_, _<_};
 ghost use lib.ListN.{length, drop, getD};
-ghost use Rattle.reading.specs.Byte.{blank, run, begins};
+ghost use Rattle.reading.specs.Byte.{blank, digit, run, begins};
 ghost use Rattle.reading.specs.Rules.{trivia, multiline-trivia};
 ghost use Rattle.reading.specs.Table.{first-high};
 ghost use Rattle.reading.specs.Items.{trivia-items};
 ghost use Rattle.cursor.specs.Text.{Skips};
 ghost use Rattle.trivia.specs.Answers.{told, listed, high-of, Lists};
-ghost use Rattle.trivia.specs.Class.{bit, member, name-run};
+ghost use Rattle.trivia.specs.Class.{among, starts, goes, name-run};
 ghost use Rattle.trivia.specs.Piece.{Starts, Nothing, trivia-of};
 
 pub mod class;
 mod comment;
 pub mod kind;
 
-// The bit of the class in an entry of the table.
-fn has(mask: u16, class: u32) -> bool
-    requires { ⌜ class < 16 ⌝ }
-    ensures { λ r. ⌜ r ≡ bit mask class ⌝ }
+// The end of the run that starts here, of bytes of the class, or of bytes that are not of it.
+pub fn run_end(s: &[u8], at: Pos, class: u32, inside: bool) -> Pos
+    requires { ⌜ class < 8 ⌝ }
+    ensures { λ r. ⌜ r .0 ≡ at .0 + run (among class inside) (drop (at .0) (now (s .entry))) ⌝ }
 {
-    (mask >> class) % 2 == 1
-}
-
-// The end of the run of the class that starts here. The table is set up once, not for each byte.
-pub fn run_end(s: &[u8], at: Pos, class: u32) -> Pos
-    requires { ⌜ class < 16 ⌝ }
-    ensures { λ r. ⌜ r .0 ≡ at .0 + run (member class) (drop (at .0) (now (s .entry))) ⌝ }
-{
-    let masks = CLASS;
+    let masks = class::masks();
     let mut i = at.0;
     while i < s.len() {
-        if !has(masks[s[i] as usize], class) {
+        if !class::among(&masks, s[i], class, inside) {
             return Pos(i);
         }
         i += 1;
@@ -46,27 +37,41 @@ pub fn run_end(s: &[u8], at: Pos, class: u32) -> Pos
     Pos(i)
 }
 
-// The end of what starts here with a byte of the first class and goes on with bytes of the second; `at` where nothing does.
-pub fn name_end(s: &[u8], at: Pos, start: u32, class: u32) -> Pos
-    requires { ⌜ (start < 16) × (class < 16) ⌝ }
-    ensures { λ r. ⌜ r .0 ≡ at .0 + name-run (member start) (member class) (drop (at .0) (now (s .entry))) ⌝ }
+// The end of the name that starts here, in which `also` may stand beside letters and digits; `at` where none does.
+pub fn name_end(s: &[u8], at: Pos, also: u8) -> Pos
+    ensures { λ r. ⌜ r .0 ≡ at .0 + name-run (starts also) (goes also) (drop (at .0) (now (s .entry))) ⌝ }
 {
-    let masks = CLASS;
     let mut i = at.0;
     if s.len() <= i {
         return at;
     }
-    if !has(masks[s[i] as usize], start) {
+    let b = s[i];
+    if !(class::letter(b) | (b == also)) {
         return at;
     }
+    let masks = class::masks();
     i += 1;
     while i < s.len() {
-        if !has(masks[s[i] as usize], class) {
+        if !class::goes_on(&masks, s[i], also) {
             return Pos(i);
         }
         i += 1;
     }
     Pos(i)
+}
+
+// The end of the digits that start here. Most often there is none, which the first byte tells.
+pub fn digits_end(s: &[u8], at: Pos) -> Pos
+    ensures { λ r. ⌜ r .0 ≡ at .0 + run digit (drop (at .0) (now (s .entry))) ⌝ }
+{
+    let i = at.0;
+    if s.len() <= i {
+        return at;
+    }
+    if !class::digit(s[i]) {
+        return at;
+    }
+    run_end(s, at, class::DIGIT, true)
 }
 
 // Where a comment ends, or that the text ends first.
@@ -130,19 +135,18 @@ fn comment_item(s: &[u8], at: Pos) -> Piece
     Piece::No
 }
 
-// The end of the blanks that go on here. Two bytes are compared; the table of classes would be set up anew for each run.
+// The end of the blanks that go on here. Most often a blank stands alone, which the next byte tells.
 fn blanks_end(s: &[u8], at: Pos) -> Pos
     ensures { λ r. ⌜ r .0 ≡ at .0 + run blank (drop (at .0) (now (s .entry))) ⌝ }
 {
-    let mut i = at.0;
-    while i < s.len() {
-        let b = s[i];
-        if !((b == b' ') | (b == b'\t')) {
-            return Pos(i);
-        }
-        i += 1;
+    let i = at.0;
+    if s.len() <= i {
+        return at;
     }
-    Pos(i)
+    if !class::blank(s[i]) {
+        return at;
+    }
+    run_end(s, at, class::BLANK, true)
 }
 
 // What starts here. Most bytes stand above the space and start nothing; they are answered first.
@@ -194,6 +198,9 @@ fn skip(s: &[u8], at: Pos, met: bool, lines: bool) -> Skip
         }
         i = end.0;
         m = m | (kind == kind::UNTERMINATED);
+        if bare(s, Pos(i), lines) {
+            return Skip { at: Pos(i), met: m };
+        }
     }
 }
 

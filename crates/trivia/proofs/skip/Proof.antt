@@ -38,13 +38,21 @@ returns-2 c =
     (c .before .before .before .before .before .before .before .pre)
     (ap (kept _) (c .before .before .piece .given .1) ∙ kept-no _ _ _ (c .if1 .taken))
 
+bare-requires : tie.Need-bare-requires Inv-loop μ-loop
+bare-requires c κs = tt
+
+returns-3 : tie.Need-returns-3 Inv-loop μ-loop
+returns-3 c =
+    let nothing = c .before .bare .ensures (c .if2 .taken) in
+    let more = walked-more (c .before .before .before .before .before .before .before .loop .inv) (c .before .before .before .before .before .before .trivia-item .ensures) _ _ (c .before .before .before .before .piece .given .1) (c .before .before .if1 .left) in
+    walked-skips more (nothing .starts) (c .before .before .before .before .before .before .before .before .before .pre) (nothing .none)
+
 loop-less : tie.Need-loop-less Inv-loop μ-loop
-loop-less c = let m = item-bounds (c .before .before .before .before .trivia-item .ensures) _ _ (c .before .before .piece .given .1) in omega (arith, m .0, m .1)
+loop-less c = let m = item-bounds (c .before .before .before .before .before .before .trivia-item .ensures) _ _ (c .before .before .before .before .piece .given .1) in omega (arith, m .0, m .1)
 
 loop-again : tie.Need-loop-again Inv-loop μ-loop
 loop-again c =
-    walked-more (c .before .before .before .before .before .loop .inv) (c .before .before .before .before .trivia-item .ensures) _ _
-    (c .before .before .piece .given .1) (c .if1 .left)
+    walked-more (c .before .before .before .before .before .before .before .loop .inv) (c .before .before .before .before .before .before .trivia-item .ensures) _ _ (c .before .before .before .before .piece .given .1) (c .before .before .if1 .left)
 
 pub skip-spec : {M : Type 1} → statement M
 skip-spec =
@@ -58,5 +66,7 @@ skip-spec =
     enum-told
     returns
     returns-2
+    bare-requires
+    returns-3
     loop-less
     loop-again)

@@ -1,4 +1,4 @@
--- The classes 12 and 13 are those of names.
+-- Letters, digits and `_` are what a name is made of.
 use borrow.Author.Needs.{needs}
 use Rattle.reading.specs.Rules.{identifier-name}
 use Rattle.lexis.proofs.identifier.name.Statement.{statement}

@@ -1,5 +1,6 @@
 -- The text ends; no sign; a sign at the end; a sign with a letter or digit behind it; a sign alone.
-use mathlib.Core.Path.{refl, sym, _∙_}
+use mathlib.Core.Bool.{_||_}
+use mathlib.Core.Path.{refl, ap₂, sym, _∙_}
 use borrow.Author.Needs.{needs}
 use borrow.Author.Tests.{not-true, not-false}
 use Rattle.reading.specs.Byte.{alphanumeric}
@@ -25,23 +26,26 @@ returns-3 c =
     scope-at _ _ (c .before .before .before .if1 .left) (not-false _ (c .before .if2 .left)) (never-no (one-end alphanumeric _ _
     (c .if3 .taken)) _ refl)
 
-shared-slice-read-alphanumeric : tie.Need-shared-slice-read-alphanumeric
-shared-slice-read-alphanumeric c = search needs
+shared-slice-read-next : tie.Need-shared-slice-read-next
+shared-slice-read-next c = search needs
 
-alphanumeric-requires : tie.Need-alphanumeric-requires
-alphanumeric-requires c κs = search needs
+letter-requires : tie.Need-letter-requires
+letter-requires c κs = search needs
+
+digit-requires : tie.Need-digit-requires
+digit-requires c κs = search needs
 
 returns-4 : tie.Need-returns-4
 returns-4 c =
-    scope-at _ _ (c .before .before .before .before .before .before .if1 .left) (not-false _ (c .before .before .before .before .if2 .left))
-    (never-at tt (one-at alphanumeric _ _ (c .before .before .before .if3 .left) (sym (c .before .alphanumeric .ensures) ∙ c .if4 .taken)
-    (record { 0 = _ }) refl))
+    scope-at _ _ (c .before .before .before .before .before .before .before .if1 .left) (not-false _ (c .before .before .before .before .before .if2 .left))
+    (never-at tt (one-at alphanumeric _ _ (c .before .before .before .before .if3 .left)
+    (sym (ap₂ _||_ (c .before .before .letter .ensures) (c .before .digit .ensures)) ∙ c .if4 .taken) (record { 0 = _ }) refl))
 
 returns-5 : tie.Need-returns-5
 returns-5 c =
-    scope-at _ _ (c .before .before .before .before .before .before .if1 .left) (not-false _ (c .before .before .before .before .if2 .left))
-    (never-no (one-no alphanumeric _ _ (c .before .before .before .if3 .left) (sym
-    (c .before .alphanumeric .ensures) ∙ c .if4 .left)) _ refl)
+    scope-at _ _ (c .before .before .before .before .before .before .before .if1 .left) (not-false _ (c .before .before .before .before .before .if2 .left))
+    (never-no (one-no alphanumeric _ _ (c .before .before .before .before .if3 .left)
+    (sym (ap₂ _||_ (c .before .before .letter .ensures) (c .before .digit .ensures)) ∙ c .if4 .left)) _ refl)
 
 pub scope-spec : {M : Type 1} → statement M
 scope-spec =
@@ -52,7 +56,8 @@ scope-spec =
     returns-2
     add-j
     returns-3
-    shared-slice-read-alphanumeric
-    alphanumeric-requires
+    shared-slice-read-next
+    letter-requires
+    digit-requires
     returns-4
     returns-5)

@@ -22,7 +22,7 @@ row-requires : tie.Need-row-requires
 row-requires c κs =
     let e = c .before .before .before .before .before .before .before in
     let found = finds-to (c .before .before .f .given .1) (c .before .before .before .before .name-end .ensures) in
-    row-fits (e .pre .0) _ _ 0 (end-in tt tt (e .pre .0 .within) found .within) (e .pre .1 .2) (omega arith)
+    row-fits (e .pre .0) _ _ 0 (end-in tt tt (e .pre .0 .within) found .within) (e .pre .1) (omega arith)
 
 same-length : tie.Need-same-length
 same-length c = search needs

@@ -5,11 +5,11 @@ use Rattle.lexis.proofs.Ends.{or-at, or-no, some-at, some-no, word-at, word-no}
 use Rattle.literal.proofs.number.numeral.Statement.{statement}
 use Rattle.literal.proofs.number.numeral.Tie as tie
 
-run-end-requires : tie.Need-run-end-requires
-run-end-requires c κs = search needs
+digits-end-requires : tie.Need-digits-end-requires
+digits-end-requires c κs = search needs
 
 returns : tie.Need-returns
-returns c = or-at _ (some-at digit _ _ _ (c .before .before .run-end .ensures) (c .if1 .taken))
+returns c = or-at _ (some-at digit _ _ _ (c .before .before .digits-end .ensures) (c .if1 .taken))
 
 slice-aggregate-begins : tie.Need-slice-aggregate-begins
 slice-aggregate-begins c = search needs
@@ -22,11 +22,11 @@ add-t11 c = search needs
 
 returns-2 : tie.Need-returns-2
 returns-2 c =
-    let run-end′ = c .before .before .before .before .before .run-end .ensures in
+    let digits-end′ = c .before .before .before .before .before .digits-end .ensures in
     let if1 = c .before .before .before .if1 .left in
     let begins′ = c .before .begins .ensures in
     let if2 = c .if2 .taken in
-    or-no _ (some-no digit _ _ _ run-end′ if1) (or-at _ (word-at (bytes "true") _ _ (sym begins′ ∙ if2) _ refl))
+    or-no _ (some-no digit _ _ _ digits-end′ if1) (or-at _ (word-at (bytes "true") _ _ (sym begins′ ∙ if2) _ refl))
 
 slice-aggregate-begins-2 : tie.Need-slice-aggregate-begins-2
 slice-aggregate-begins-2 c = search needs
@@ -39,29 +39,29 @@ add-t16 c = search needs
 
 returns-3 : tie.Need-returns-3
 returns-3 c =
-    let run-end′ = c .before .before .before .before .before .before .before .before .run-end .ensures in
+    let digits-end′ = c .before .before .before .before .before .before .before .before .digits-end .ensures in
     let if1 = c .before .before .before .before .before .before .if1 .left in
     let begins′ = c .before .before .before .before .begins .ensures in
     let if2 = c .before .before .before .if2 .left in
     let begins2′ = c .before .begins2 .ensures in
     let if3 = c .if3 .taken in
-    or-no _ (some-no digit _ _ _ run-end′ if1) (or-no _ (word-no (bytes "true") _ _ (sym begins′ ∙ if2)) (word-at (bytes "false") _ _ (sym begins2′ ∙ if3) _ refl))
+    or-no _ (some-no digit _ _ _ digits-end′ if1) (or-no _ (word-no (bytes "true") _ _ (sym begins′ ∙ if2)) (word-at (bytes "false") _ _ (sym begins2′ ∙ if3) _ refl))
 
 returns-4 : tie.Need-returns-4
 returns-4 c =
-    let run-end′ = c .before .before .before .before .before .before .before .before .run-end .ensures in
+    let digits-end′ = c .before .before .before .before .before .before .before .before .digits-end .ensures in
     let if1 = c .before .before .before .before .before .before .if1 .left in
     let begins′ = c .before .before .before .before .begins .ensures in
     let if2 = c .before .before .before .if2 .left in
     let begins2′ = c .before .begins2 .ensures in
     let if3 = c .if3 .left in
-    or-no _ (some-no digit _ _ _ run-end′ if1) (or-no _ (word-no (bytes "true") _ _ (sym begins′ ∙ if2)) (word-no (bytes "false") _ _ (sym begins2′ ∙ if3)))
+    or-no _ (some-no digit _ _ _ digits-end′ if1) (or-no _ (word-no (bytes "true") _ _ (sym begins′ ∙ if2)) (word-no (bytes "false") _ _ (sym begins2′ ∙ if3)))
 
 pub numeral-spec : {M : Type 1} → statement M
 numeral-spec =
     tie.close
     (tie.spec
-    run-end-requires
+    digits-end-requires
     returns
     slice-aggregate-begins
     begins-requires

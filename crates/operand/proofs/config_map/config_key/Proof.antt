@@ -1,4 +1,4 @@
--- The classes of a key are those of the table.
+-- Letters, digits and `-` are what a key is made of.
 use Rattle.reading.specs.Rules.{multiline-trivia, config-key}
 use borrow.Author.Needs.{needs}
 use Rattle.operand.proofs.config_map.config_key.Statement.{statement}
