@@ -5,7 +5,6 @@ use mathlib.Core.List.{List, _++_}
 use mathlib.Core.Logic.{_⊎_, inl, inr}
 use mathlib.Core.Option.{none}
 use Prim.Native.Nat.{ℕ, zero, suc, _+_, _*_, _-_, _≤_, _<_}
-use native.Mathlib.Nat.{le-div-iff-mul-le}
 use native.Mathlib.Omega.{arith}
 use borrow.Author.Tests.{ltb-true, ltb-false}
 use lib.Dec.{ltb}
@@ -17,7 +16,7 @@ use Rattle.reading.specs.Table.{Answer as Answered-or, answered, refused, first
 use Rattle.reading.specs.Outcome.{Call, Counts, reading, refusal, outcome}
 use Rattle.parser.specs.Answers.{Meets}
 use Rattle.parser.specs.Seen.{code-of, given-of, Seen, exported, answer-seen}
-use Rattle.parser.specs.Demand.{Kind, rows, errors, requests, number, width, lent, room-of, need, count, table, Answered, Refused, Readable, Enough, Short, Before, Lacks, OneCall, SameText, Larger, Unchanged, size, Whole, Repeats, TwoCalls}
+use Rattle.parser.specs.Demand.{Kind, rows, errors, requests, number, width, lent, room-of, need, count, table, Answered, Refused, Readable, Enough, Short, Before, Lacks, OneCall, SameText, Larger, Unchanged, size, records, Whole, Repeats, TwoCalls, Demand3}
 use Rattle.parser.specs.declared.Answer.{Answer}
 use Rattle.parser.proofs.Room.{words, words-are, Given, none-given, none-fits, fits-none, answered-none, room-number, refused-lacks, lacks-refused}
 
@@ -47,40 +46,42 @@ outcome-one c =
       counts = λ h. answered-seen c h .counts;
     }
 
--- a readable call with room for the kinds before this one and for it is answered, or refused for a later kind
-settles : (k : Kind) (c : Call) → Readable c → Before k c → Enough k c → Answered (exported (outcome c)) ⊎ (number k < exported (outcome c) .code)
+-- a readable call with room for the kinds that are tested before this one is refused for it, or has room for it
+lacks-or-fits : (k : Kind) (c : Call) → Readable c → Before k c → Refused k (exported (outcome c)) ⊎ Enough k c
+lacks-or-fits k c r b = go (ltb (room-of k c) (need k c)) refl
+  where
+    go : (t : Bool) → ltb (room-of k c) (need k c) ≡ t → Refused k (exported (outcome c)) ⊎ Enough k c
+    go true h = inl (lacks-seen k c (record { readable = r; before = b; short = ltb-true _ _ h }))
+    go false h = inr (ltb-false _ _ h)
+
+abbrev Later : ℕ → Call → Type 0
+Later n c = Answered (exported (outcome c)) ⊎ (n < exported (outcome c) .code)
+
+-- with room for this kind too, it is answered or refused for a later kind
+settles : (k : Kind) (c : Call) → Readable c → Before k c → Enough k c → Later (number k) c
 settles k c r = go k
   where
-    go-requests : Enough rows c → Enough errors c → Enough requests c → Answered (exported (outcome c))
-    go-requests x y z = none-given c (fits-none c r all) .answered
-      where
-        all : (k : Kind) → Enough k c
-        all rows = x
-        all errors = y
-        all requests = z
+    each : Before requests c → Enough requests c → (j : Kind) → Enough j c
+    each b e rows = b .0
+    each b e errors = b .1
+    each b e requests = e
 
-    go-errors : Enough rows c → Enough errors c → Answered (exported (outcome c)) ⊎ (7 < exported (outcome c) .code)
-    go-errors x y = pick (ltb (room-of requests c) (need requests c)) refl
-      where
-        pick : (b : Bool) → ltb (room-of requests c) (need requests c) ≡ b → Answered (exported (outcome c)) ⊎ (7 < exported (outcome c) .code)
-        pick true h = let z = lacks-seen requests c (record { readable = r; before = (x, y); short = ltb-true _ _ h }) in inr (omega arith)
-        pick false h = inl (go-requests x y (ltb-false _ _ h))
+    to-requests : Before requests c → Refused requests (exported (outcome c)) ⊎ Enough requests c → Later 7 c
+    to-requests b (inl h) = inr (omega (arith, h))
+    to-requests b (inr e) = inl (none-given c (fits-none c r (each b e)) .answered)
 
-    go-rows : Enough rows c → Answered (exported (outcome c)) ⊎ (6 < exported (outcome c) .code)
-    go-rows x = pick (ltb (room-of errors c) (need errors c)) refl
-      where
-        more : Answered (exported (outcome c)) ⊎ (7 < exported (outcome c) .code) → Answered (exported (outcome c)) ⊎ (6 < exported (outcome c) .code)
-        more (inl h) = inl h
-        more (inr h) = inr (omega arith)
+    sooner : Later 7 c → Later 6 c
+    sooner (inl h) = inl h
+    sooner (inr h) = inr (omega (arith, h))
 
-        pick : (b : Bool) → ltb (room-of errors c) (need errors c) ≡ b → Answered (exported (outcome c)) ⊎ (6 < exported (outcome c) .code)
-        pick true h = let z = lacks-seen errors c (record { readable = r; before = x; short = ltb-true _ _ h }) in inr (omega arith)
-        pick false h = more (go-errors x (ltb-false _ _ h))
+    to-errors : Before errors c → Refused errors (exported (outcome c)) ⊎ Enough errors c → Later 6 c
+    to-errors b (inl h) = inr (omega (arith, h))
+    to-errors b (inr e) = sooner (to-requests (b, e) (lacks-or-fits requests c r (b, e)))
 
-    go : (k : Kind) → Before k c → Enough k c → Answered (exported (outcome c)) ⊎ (number k < exported (outcome c) .code)
-    go rows b x = go-rows x
-    go errors b x = go-errors b x
-    go requests b x = inl (go-requests (b .0) (b .1) x)
+    go : (k : Kind) → Before k c → Enough k c → Later (number k) c
+    go rows b e = to-errors e (lacks-or-fits errors c r e)
+    go errors b e = to-requests (b, e) (lacks-or-fits requests c r (b, e))
+    go requests b e = inl (none-given c (fits-none c r (each b e)) .answered)
 
 -- The records of an answer ---------------------------------------------------
 
@@ -88,35 +89,28 @@ length-zeros : (n : ℕ) → length (zeros n) ≡ n
 length-zeros zero = refl
 length-zeros (suc n) = ap suc (length-zeros n)
 
-module _ (c : Call) (x : Seen) (g : Given c x) (fit : (k : Kind) → Enough k c) where
-  size-is : (k : Kind) → size k x ≡ length (words k c)
-  size-is k = ap (λ (n : ℕ). n * width k) (g .counts k) ∙ sym (words-are k c)
+module _ (c : Call) (x : Seen) (g : Given c x) where
+  abbrev rest : Kind → List ℕ
+  rest k = zeros (length (lent k c) - length (words k c))
 
-  pub records-are : (k : Kind) → take (size k x) (table k x) ≡ words k c
-  records-are k =
-      ap (λ (t : List ℕ). take (size k x) t) (g .tables k) ∙ take-at (words k c) (zeros (length (lent k c) - length (words k c))) (size k x) (sym (size-is k))
+  size-is : (k : Kind) → length (words k c) ≡ size k x
+  size-is k = words-are k c ∙ ap (λ (n : ℕ). n * width k) (sym (g .counts k))
 
-  width-positive : (k : Kind) → 0 < width k
-  width-positive rows = omega arith
-  width-positive errors = omega arith
-  width-positive requests = omega arith
+  pub records-are : (k : Kind) → records k x ≡ words k c
+  records-are k = ap (take (size k x)) (g .tables k) ∙ take-at (words k c) (rest k) (size k x) (size-is k)
 
-  words-fit : (k : Kind) → length (words k c) ≤ length (lent k c)
-  words-fit k = let z = le-div-iff-mul-le (width-positive k) .0 (fit k) in omega (arith, words-are k c, z)
-
-  table-long : (k : Kind) → length (table k x) ≡ length (lent k c)
-  table-long k =
-      let y : length (table k x) ≡ length (words k c) + length (zeros (length (lent k c) - length (words k c))) = ap length (g .tables k) ∙ length-append (words k c) _ in
-      omega (arith, y, length-zeros (length (lent k c) - length (words k c)), words-fit k)
+  rest-is : (k : Kind) → rest k ≡ zeros (length (table k x) - size k x)
+  rest-is k =
+      let y : length (table k x) ≡ length (words k c) + length (rest k) = ap length (g .tables k) ∙ length-append (words k c) (rest k) in
+      ap zeros
+      (let z : length (lent k c) - length (words k c) ≡ length (table k x) - size k x =
+      omega (arith, y, size-is k, length-zeros (length (lent k c) - length (words k c))) in z)
 
   pub whole : (k : Kind) → Whole k x
   whole k =
       record {
-        long = omega (arith, size-is k, table-long k, words-fit k);
-        behind =
-            ap (λ (t : List ℕ). drop (size k x) t) (g .tables k)
-            ∙ (drop-at (words k c) (zeros (length (lent k c) - length (words k c))) (size k x) (sym (size-is k))
-            ∙ ap zeros (let z : length (lent k c) - length (words k c) ≡ length (table k x) - size k x = omega (arith, size-is k, table-long k) in z));
+        long = ap length (records-are k) ∙ size-is k;
+        behind = ap (drop (size k x)) (g .tables k) ∙ (drop-at (words k c) (rest k) (size k x) (size-is k) ∙ rest-is k);
       }
 
 -- Two calls ------------------------------------------------------------------
@@ -151,11 +145,10 @@ module _ (a b : Call) (s : SameText a b) where
   still-before : (k : Kind) → Unchanged k a b → Before k a → Before k b
   still-before rows u e = tt
   still-before errors u e = still-enough rows (let z = u .rooms rows (λ p. let y = ap number p in omega arith) in omega arith) e
-  still-before requests u e =
-      (
-        still-enough rows (let z = u .rooms rows (λ p. let y = ap number p in omega arith) in omega arith) (e .0),
-        still-enough errors (let z = u .rooms errors (λ p. let y = ap number p in omega arith) in omega arith) (e .1),
-      )
+  still-before requests u e = (
+    still-enough rows (let z = u .rooms rows (λ p. let y = ap number p in omega arith) in omega arith) (e .0),
+    still-enough errors (let z = u .rooms errors (λ p. let y = ap number p in omega arith) in omega arith) (e .1),
+  )
 
   abbrev x : Seen
   x = exported (outcome a)
@@ -174,11 +167,9 @@ module _ (a b : Call) (s : SameText a b) where
         counts = λ k. counted g i k;
         scope = i .scope ∙ (ap (λ (o : Reply Rows). state-of o .scope) (sym same-reading) ∙ sym (g .scope));
         swallow = i .swallow ∙ (ap (λ (o : Reply Rows). state-of o .swallow) (sym same-reading) ∙ sym (g .swallow));
-        records = λ k.
-            ap (λ (n : ℕ). take (n * width k) (table k y)) (sym (counted g i k))
-            ∙ (records-are b y i fit k ∙ (sym (same-words k) ∙ sym (records-are a x g (e .1) k)));
-        first = whole a x g (e .1);
-        second = whole b y i fit;
+        same = λ k. records-are b y i k ∙ (sym (same-words k) ∙ sym (records-are a x g k));
+        first = whole a x g;
+        second = whole b y i;
       }
     where
       counted : Given a x → Given b y → (k : Kind) → count k y ≡ count k x
@@ -193,19 +184,18 @@ module _ (a b : Call) (s : SameText a b) where
       (still-readable (omega (arith, u .level)) (omega (arith, u .level, l .readable .level)) (l .readable), still-before k u (l .before))
 
   exactly : (k : Kind) → Unchanged k a b → Refused k x → (Refused k y → room-of k b < x .given) × (room-of k b < x .given → Refused k y)
-  exactly k u h =
-      (
-        λ i. let z = refused-seen k b i .0 .short in omega (arith, named k h, z),
-        λ i. let r = unchanged-readable k u h in lacks-seen k b (record { readable = r .0; before = r .1; short = omega (arith, named k h, i) }),
-      )
+  exactly k u h = (
+    λ i. let z = refused-seen k b i .0 .short in omega (arith, named k h, z),
+    λ i. let r = unchanged-readable k u h in lacks-seen k b (record { readable = r .0; before = r .1; short = omega (arith, named k h, i) }),
+  )
 
   pub outcome-two : TwoCalls a x b y
   outcome-two =
       record {
         grows = grown;
         needs = same-need;
-        same = λ k h i. refused-seen k b i .1 ∙ sym (named k h);
-        had = λ k h i. answered-seen b i .counts k ∙ sym (named k h);
+        gives = λ k h i. refused-seen k b i .1 ∙ sym (named k h);
+        has = λ k h i. answered-seen b i .counts k ∙ sym (named k h);
         exact = λ k u h. (exactly k u h, λ i. refused-seen k b i .1 ∙ sym (named k h));
         again = λ k u h i.
             let r = unchanged-readable k u h in
@@ -214,17 +204,13 @@ module _ (a b : Call) (s : SameText a b) where
 
 -- The calls ------------------------------------------------------------------
 
--- whatever shows the outcome
-pub shown-one : {c : Call} {x : Seen} → x ≡ exported (outcome c) → OneCall c x
-shown-one {c} p = subst (OneCall c) (sym p) (outcome-one c)
+-- whatever shows the outcomes
+pub shown-room : {a b : Call} {x y : Seen} → x ≡ exported (outcome a) → y ≡ exported (outcome b) → Demand3 a x b y
+shown-room {a} {b} {x} {y} p q =
+    subst (λ (v : Seen). Demand3 a v b y) (sym p)
+    (subst (Demand3 a (exported (outcome a)) b) (sym q) (record { first = outcome-one a; second = outcome-one b; both = outcome-two a b }))
 
-pub shown-two : {a b : Call} {x y : Seen} → x ≡ exported (outcome a) → y ≡ exported (outcome b) → SameText a b → TwoCalls a x b y
-shown-two {a} {b} {x} {y} p q s = subst (λ (v : Seen). TwoCalls a v b y) (sym p) (subst (TwoCalls a (exported (outcome a)) b) (sym q) (outcome-two a b s))
-
--- `parser::read`: any call and any two calls that meet the contract
-pub read-one : {c : Call} {t e q : List ℕ} {r : Answer} → Meets c t e q r → OneCall c (answer-seen c t e q r)
-read-one m = shown-one (ap exported (m .outcome-is))
-
-pub read-two : {a b : Call} {t₁ e₁ q₁ t₂ e₂ q₂ : List ℕ} {r₁ r₂ : Answer} → Meets a t₁ e₁ q₁ r₁ → Meets b t₂ e₂ q₂ r₂ → SameText a b
-    → TwoCalls a (answer-seen a t₁ e₁ q₁ r₁) b (answer-seen b t₂ e₂ q₂ r₂)
-read-two m n s = shown-two (ap exported (m .outcome-is)) (ap exported (n .outcome-is)) s
+-- `parser::read`: any two calls that meet the contract
+pub read-room : {a b : Call} {t₁ e₁ q₁ t₂ e₂ q₂ : List ℕ} {r₁ r₂ : Answer} → Meets a t₁ e₁ q₁ r₁ → Meets b t₂ e₂ q₂ r₂
+    → Demand3 a (answer-seen a t₁ e₁ q₁ r₁) b (answer-seen b t₂ e₂ q₂ r₂)
+read-room m n = shown-room (ap exported (m .outcome-is)) (ap exported (n .outcome-is))

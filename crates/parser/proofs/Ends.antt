@@ -88,7 +88,6 @@ module _ {s : List ℕ} {n : ℕ} {f : Bool} {l : ℕ} {r : Done} {t e q : List 
     kept-of requests = st .requests
 
     kept-is : (k : Kind) → kept-of k ≡ need k this
-    unfolding needs
     kept-is rows = (let z : d .count .0 ≡ length (seen .v) = omega (arith, seen .count) in z) ∙ ap (λ (o : Reply Rows). length (rows-of o)) (sym (seen .is))
     kept-is errors = ap (λ (y : Kept). y .errors) (sym (seen .state)) ∙ ap (λ (o : Reply Rows). length (state-of o .errors)) (sym (seen .is))
     kept-is requests = ap (λ (y : Kept). y .requests) (sym (seen .state)) ∙ ap (λ (o : Reply Rows). length (state-of o .requests)) (sym (seen .is))

@@ -1,6 +1,6 @@
--- Demand 3, "Room", on a page: what holds of any one call that reads a text, and of any two, whatever their tables hold. `c`, `a` and `b` are
--- what is lent to a call; `x` and `y` are what its caller sees afterwards. proofs/Demand proves it of `parser::read`, and crate vireopatch of
--- `vireopatch_read`.
+-- Demand 3, "Room", on a page: `Demand3`, at the end, is what holds of any two calls that read a text, whatever their tables hold. `a` and `b`
+-- are what is lent to them, `x` and `y` what their callers see afterwards. proofs/Demand proves it of `parser::read`, and proofs/Demand of
+-- crate vireopatch of `vireopatch_read`.
 use mathlib.Core.Path.{_≡_}
 use mathlib.Core.Logic.{_↔_, _⊎_}
 use mathlib.Core.List.{List}
@@ -115,21 +115,24 @@ pub record Unchanged (k : Kind) (a b : Call) : Type 0 where
   pub level : a .level ≡ b .level
   pub rooms : (j : Kind) → (j ≡ k → ⊥) → room-of j a ≡ room-of j b
 
--- how many words the records of a kind are, and that the table has them, and zeros behind them up to its end
+-- the records of a kind, word for word: that many words, zeros behind them up to the table's end
 abbrev pub size : Kind → Seen → ℕ
 size k x = count k x * width k
 
+abbrev pub records : Kind → Seen → List ℕ
+records k x = take (size k x) (table k x)
+
 pub record Whole (k : Kind) (x : Seen) : Type 0 where
-  pub long : size k x ≤ length (table k x)
+  pub long : length (records k x) ≡ size k x
   pub behind : drop (size k x) (table k x) ≡ zeros (length (table k x) - size k x)
 
--- y is the answer x, word for word
+-- y is an answer, and that of x
 pub record Repeats (x y : Seen) : Type 0 where
   pub answered : Answered y
   pub counts : (k : Kind) → count k y ≡ count k x
   pub scope : y .end-scope ≡ x .end-scope
   pub swallow : y .end-swallow ≡ x .end-swallow
-  pub records : (k : Kind) → take (size k x) (table k y) ≡ take (size k x) (table k x)
+  pub same : (k : Kind) → records k y ≡ records k x
   pub first : (k : Kind) → Whole k x
   pub second : (k : Kind) → Whole k y
 
@@ -138,9 +141,15 @@ pub record TwoCalls (a : Call) (x : Seen) (b : Call) (y : Seen) : Type 0 where
   pub grows : Larger a b → Answered x → Repeats x y
   -- The need is the same "whatever the limits": two refusals give the same number, and an answer has that many records
   pub needs : (k : Kind) → need k a ≡ need k b
-  pub same : (k : Kind) → Refused k x → Refused k y → y .given ≡ x .given
-  pub had : (k : Kind) → Refused k x → Answered y → count k y ≡ x .given
-  -- It "comes exactly when the room is less", the other limits unchanged, and then with the same number
+  pub gives : (k : Kind) → Refused k x → Refused k y → y .given ≡ x .given
+  pub has : (k : Kind) → Refused k x → Answered y → count k y ≡ x .given
+  -- A refusal "comes exactly when the room is less", the other limits unchanged, and then with the same number
   pub exact : (k : Kind) → Unchanged k a b → Refused k x → (Refused k y ↔ (room-of k b < x .given)) × (Refused k y → y .given ≡ x .given)
   -- In the room that was named the call is answered, or refused for a kind that is tested later
   pub again : (k : Kind) → Unchanged k a b → Refused k x → x .given ≤ room-of k b → Answered y ⊎ (x .code < y .code)
+
+-- Any two calls, which may be one
+pub record Demand3 (a : Call) (x : Seen) (b : Call) (y : Seen) : Type 0 where
+  pub first : OneCall a x
+  pub second : OneCall b y
+  pub both : SameText a b → TwoCalls a x b y
