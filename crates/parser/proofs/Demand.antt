@@ -1,9 +1,8 @@
--- Demand 3 (specs/Demand) of the outcome, of whatever shows it, and of `parser::read`: any one call and any two that meet the contract.
+-- Demand 3 (specs/Demand) of the outcome, of whatever shows it, and of `parser::read`.
 use mathlib.Core.Path.{_≡_, refl, ap, sym, subst, _∙_}
 use mathlib.Core.Bool.{Bool, true, false}
-use mathlib.Core.List.{List, _++_}
+use mathlib.Core.List.{List}
 use mathlib.Core.Logic.{_⊎_, inl, inr}
-use mathlib.Core.Option.{none}
 use Prim.Native.Nat.{ℕ, zero, suc, _+_, _*_, _-_, _≤_, _<_}
 use native.Mathlib.Omega.{arith}
 use borrow.Author.Tests.{ltb-true, ltb-false}
@@ -11,12 +10,12 @@ use lib.Dec.{ltb}
 use lib.ListN.{length, take, drop, length-append}
 use lib.Seq.{take-at, drop-at}
 use Rattle.reading.specs.Grammar.{Rows, Reply}
-use Rattle.reading.specs.Reading.{written, rows-of, state-of}
-use Rattle.reading.specs.Table.{Answer as Answered-or, answered, refused, first-high, row-words, error-words, request-words, zeros, filled}
-use Rattle.reading.specs.Outcome.{Call, Counts, reading, refusal, outcome}
+use Rattle.reading.specs.Reading.{rows-of, state-of}
+use Rattle.reading.specs.Table.{Answer as Answered-or, answered, refused, first-high, row-words, error-words, request-words, zeros}
+use Rattle.reading.specs.Outcome.{Call, Counts, reading, outcome}
 use Rattle.parser.specs.Answers.{Meets}
 use Rattle.parser.specs.Seen.{code-of, given-of, Seen, exported, answer-seen}
-use Rattle.parser.specs.Demand.{Kind, rows, errors, requests, number, width, lent, room-of, need, count, table, Answered, Refused, Readable, Enough, Short, Before, Lacks, OneCall, SameText, Larger, Unchanged, size, records, Whole, Repeats, TwoCalls, Demand3}
+use Rattle.parser.specs.Demand.{Kind, rows, errors, requests, number, width, lent, room-of, need, count, table, Answered, Refused, Readable, Enough, Before, Lacks, OneCall, SameText, Larger, Unchanged, size, records, Whole, Repeats, TwoCalls, Demand3}
 use Rattle.parser.specs.declared.Answer.{Answer}
 use Rattle.parser.proofs.Room.{words, words-are, Given, none-given, none-fits, fits-none, answered-none, room-number, refused-lacks, lacks-refused}
 

@@ -3,17 +3,18 @@ use mathlib.Core.Path.{_≡_, refl, ap, ap₂, sym, subst, _∙_}
 use mathlib.Core.Bool.{Bool, true, false}
 use mathlib.Core.List.{List, [], _∷_}
 use mathlib.Core.Option.{Option, none, some}
-use Prim.Native.Nat.{ℕ, _*_, _-_, _≤_, _<_}
+use Prim.Native.Nat.{ℕ, _*_, _<_}
 use native.Mathlib.Omega.{arith}
 use borrow.Author.Tests.{lt-ltb, le-ltb, ltb-true, ltb-false}
 use lib.Dec.{ltb}
 use lib.ListN.{length}
 use Rattle.reading.specs.Reading.{rows-of, state-of}
-use Rattle.reading.specs.Table.{Answer, answered, refused, Test, when, found, first, first-high, row-width, error-width, request-width, row-words, error-words, request-words, room, filled}
+use Rattle.reading.specs.Table.{Answer, answered, refused, Test, when, found, first, first-high, row-width, error-width, row-words, error-words, request-words, room, filled}
 use Rattle.table.proofs.Holds.{words-length, rows-written, errors-written, requests-written}
 use Rattle.reading.specs.Outcome.{Call, Counts, reading, needs, refusal, settled, outcome}
 use Rattle.parser.specs.Seen.{code-of, Seen, exported}
-pub use Rattle.parser.specs.Demand.{Kind, rows, errors, requests, number, width, lent, need, count, table, Answered, Readable, Enough, Short, Before, Lacks}
+use Rattle.parser.specs.Demand.{count, table, Answered}
+pub use Rattle.parser.specs.Demand.{Kind, rows, errors, requests, number, width, lent, need, Readable, Enough, Short, Before, Lacks}
 
 -- the words that the reading puts into a table
 abbrev pub words : Kind → Call → List ℕ
