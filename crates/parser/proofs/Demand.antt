@@ -11,19 +11,15 @@ use lib.ListN.{length, take, drop, length-append}
 use lib.Seq.{take-at, drop-at}
 use Rattle.reading.specs.Grammar.{Rows, Reply}
 use Rattle.reading.specs.Reading.{rows-of, state-of}
-use Rattle.reading.specs.Table.{Answer as Answered-or, answered, refused, first-high, row-words, error-words, request-words, zeros}
-use Rattle.reading.specs.Outcome.{Call, Counts, reading, outcome}
+use Rattle.reading.specs.Table.{first-high, row-words, error-words, request-words, zeros}
+use Rattle.reading.specs.Outcome.{Call, reading, outcome}
 use Rattle.parser.specs.Answers.{Meets}
-use Rattle.parser.specs.Seen.{code-of, given-of, Seen, exported, answer-seen}
+use Rattle.parser.specs.Seen.{code-of, Seen, exported, answer-seen}
 use Rattle.parser.specs.Demand.{Kind, rows, errors, requests, number, width, lent, room-of, need, count, table, Answered, Refused, Readable, Enough, Before, Lacks, OneCall, SameText, Larger, Unchanged, size, records, Whole, Repeats, TwoCalls, Demand3}
 use Rattle.parser.specs.declared.Answer.{Answer}
-use Rattle.parser.proofs.Room.{words, words-are, Given, none-given, none-fits, fits-none, answered-none, room-number, refused-lacks, lacks-refused}
+use Rattle.parser.proofs.Room.{words, words-are, Given, none-given, none-fits, fits-none, answered-none, code-refused, refused-lacks, lacks-refused}
 
 -- One call -------------------------------------------------------------------
-
-code-refused : (k : Kind) (r : Answered-or Counts) → code-of r ≡ number k → r ≡ refused (number k) (given-of r)
-code-refused k (answered n) h = absurd (let z : ⊥ = omega (arith, room-number k) in z)
-code-refused k (refused n g) h = ap (λ (i : ℕ). refused i g) h
 
 refused-seen : (k : Kind) (c : Call) → Refused k (exported (outcome c)) → Lacks k c × (exported (outcome c) .given ≡ need k c)
 unfolding exported
@@ -141,13 +137,14 @@ module _ (a b : Call) (s : SameText a b) where
   still-enough : (k : Kind) → room-of k a ≤ room-of k b → Enough k a → Enough k b
   still-enough k h e = omega (arith, same-need k, h, e)
 
+  -- a kind that is tested before this one has the room that it had
+  still-earlier : (j k : Kind) → number j < number k → Unchanged k a b → Enough j a → Enough j b
+  still-earlier j k l u e = let z = u .rooms j (λ p. let i = ap number p in omega (arith, l, i)) in still-enough j (omega (arith, z)) e
+
   still-before : (k : Kind) → Unchanged k a b → Before k a → Before k b
   still-before rows u e = tt
-  still-before errors u e = still-enough rows (let z = u .rooms rows (λ p. let y = ap number p in omega arith) in omega arith) e
-  still-before requests u e = (
-    still-enough rows (let z = u .rooms rows (λ p. let y = ap number p in omega arith) in omega arith) (e .0),
-    still-enough errors (let z = u .rooms errors (λ p. let y = ap number p in omega arith) in omega arith) (e .1),
-  )
+  still-before errors u e = still-earlier rows errors (omega arith) u e
+  still-before requests u e = (still-earlier rows requests (omega arith) u (e .0), still-earlier errors requests (omega arith) u (e .1))
 
   abbrev x : Seen
   x = exported (outcome a)
@@ -177,15 +174,15 @@ module _ (a b : Call) (s : SameText a b) where
   named : (k : Kind) → Refused k x → x .given ≡ need k b
   named k h = refused-seen k a h .1 ∙ same-need k
 
-  unchanged-readable : (k : Kind) → Unchanged k a b → Refused k x → Readable b × Before k b
-  unchanged-readable k u h =
+  still-tested : (k : Kind) → Unchanged k a b → Refused k x → Readable b × Before k b
+  still-tested k u h =
       let l = refused-seen k a h .0 in
       (still-readable (omega (arith, u .level)) (omega (arith, u .level, l .readable .level)) (l .readable), still-before k u (l .before))
 
   exactly : (k : Kind) → Unchanged k a b → Refused k x → (Refused k y → room-of k b < x .given) × (room-of k b < x .given → Refused k y)
   exactly k u h = (
     λ i. let z = refused-seen k b i .0 .short in omega (arith, named k h, z),
-    λ i. let r = unchanged-readable k u h in lacks-seen k b (record { readable = r .0; before = r .1; short = omega (arith, named k h, i) }),
+    λ i. let r = still-tested k u h in lacks-seen k b (record { readable = r .0; before = r .1; short = omega (arith, named k h, i) }),
   )
 
   pub outcome-two : TwoCalls a x b y
@@ -197,17 +194,18 @@ module _ (a b : Call) (s : SameText a b) where
         has = λ k h i. answered-seen b i .counts k ∙ sym (named k h);
         exact = λ k u h. (exactly k u h, λ i. refused-seen k b i .1 ∙ sym (named k h));
         again = λ k u h i.
-            let r = unchanged-readable k u h in
+            let r = still-tested k u h in
             subst (λ (n : ℕ). Answered y ⊎ (n < y .code)) (sym h) (settles k b (r .0) (r .1) (omega (arith, named k h, i)));
       }
 
 -- The calls ------------------------------------------------------------------
 
--- whatever shows the outcomes
+-- any two outcomes, and whatever shows them
+pub outcome-room : (a b : Call) → Demand3 a (exported (outcome a)) b (exported (outcome b))
+outcome-room a b = record { first = outcome-one a; second = outcome-one b; both = outcome-two a b }
+
 pub shown-room : {a b : Call} {x y : Seen} → x ≡ exported (outcome a) → y ≡ exported (outcome b) → Demand3 a x b y
-shown-room {a} {b} {x} {y} p q =
-    subst (λ (v : Seen). Demand3 a v b y) (sym p)
-    (subst (Demand3 a (exported (outcome a)) b) (sym q) (record { first = outcome-one a; second = outcome-one b; both = outcome-two a b }))
+shown-room {a} {b} {x} {y} p q = subst (λ (v : Seen). Demand3 a v b y) (sym p) (subst (Demand3 a (exported (outcome a)) b) (sym q) (outcome-room a b))
 
 -- `parser::read`: any two calls that meet the contract
 pub read-room : {a b : Call} {t₁ e₁ q₁ t₂ e₂ q₂ : List ℕ} {r₁ r₂ : Answer} → Meets a t₁ e₁ q₁ r₁ → Meets b t₂ e₂ q₂ r₂

@@ -12,7 +12,7 @@ use Rattle.reading.specs.Reading.{rows-of, state-of}
 use Rattle.reading.specs.Table.{Answer, answered, refused, Test, when, found, first, first-high, row-width, error-width, row-words, error-words, request-words, room, filled}
 use Rattle.table.proofs.Holds.{words-length, rows-written, errors-written, requests-written}
 use Rattle.reading.specs.Outcome.{Call, Counts, reading, needs, refusal, settled, outcome}
-use Rattle.parser.specs.Seen.{code-of, Seen, exported}
+use Rattle.parser.specs.Seen.{code-of, given-of, Seen, exported}
 use Rattle.parser.specs.Demand.{count, table, Answered}
 pub use Rattle.parser.specs.Demand.{Kind, rows, errors, requests, number, width, lent, need, Readable, Enough, Short, Before, Lacks}
 
@@ -224,7 +224,7 @@ five-other a c d e b f h i j ts n g l z =
     let x₅ = when-other e 5 j n g ts (l 5 (omega arith) (omega arith)) (x₄ .1) in
     (x₁ .0, x₂ .0, x₃ .0, x₄ .0, x₅ .0, x₅ .1)
 
-pub room-number : (k : Kind) → 5 < number k
+room-number : (k : Kind) → 5 < number k
 room-number rows = omega arith
 room-number errors = omega arith
 room-number requests = omega arith
@@ -249,6 +249,12 @@ refused-lacks k c g e =
     let x = room-readable k c g (refusal-some c (number k) g e) in
     let y = rooms-lack k c g (x .1) in
     (record { readable = x .0; before = y .0; short = y .1 }, y .2)
+
+-- What is seen of an answer --------------------------------------------------
+
+pub code-refused : (k : Kind) (r : Answer Counts) → code-of r ≡ number k → r ≡ refused (number k) (given-of r)
+code-refused k (answered n) h = absurd (let z : ⊥ = omega (arith, room-number k) in z)
+code-refused k (refused n g) h = ap (λ (i : ℕ). refused i g) h
 
 -- no refusal has the number 0, so that what is seen as an answer is one
 number-not-zero : (c : Call) (g : ℕ) → refusal c ≡ some (0, g) → ⊥

@@ -1,6 +1,7 @@
--- Demand 3, "Room", on a page: `Demand3`, at the end, is what holds of any two calls that read a text, whatever their tables hold. `a` and `b`
--- are what is lent to them, `x` and `y` what their callers see afterwards. proofs/Demand proves it of `parser::read`, and proofs/Demand of
--- crate vireopatch of `vireopatch_read`.
+-- Demand 3, on a page. "Room: an answer given in smaller limits is given in larger ones, word for word; a refusal for rows, errors or requests
+-- names the need, which is how many that reading has, whatever the limits, and comes exactly when the room is less." `Demand3`, at the end, says
+-- it of any two calls that read a text, whatever their tables hold: `a` and `b` are what is lent to them, `x` and `y` what their callers see
+-- afterwards. proofs/Demand proves it of `parser::read`, and proofs/Demand of crate vireopatch of `vireopatch_read`.
 use mathlib.Core.Path.{_≡_}
 use mathlib.Core.Logic.{_↔_, _⊎_}
 use mathlib.Core.List.{List}
