@@ -88,7 +88,6 @@ module _ {s : List ℕ} {n : ℕ} {f : Bool} {l : ℕ} {r : Done} {t e q : List 
     kept-of requests = st .requests
 
     kept-is : (k : Kind) → kept-of k ≡ need k this
-    unfolding needs
     kept-is rows = (let z : d .count .0 ≡ length (seen .v) = omega (arith, seen .count) in z) ∙ ap (λ (o : Reply Rows). length (rows-of o)) (sym (seen .is))
     kept-is errors = ap (λ (y : Kept). y .errors) (sym (seen .state)) ∙ ap (λ (o : Reply Rows). length (state-of o .errors)) (sym (seen .is))
     kept-is requests = ap (λ (y : Kept). y .requests) (sym (seen .state)) ∙ ap (λ (o : Reply Rows). length (state-of o .requests)) (sym (seen .is))
@@ -182,7 +181,7 @@ module _ {s : List ℕ} {n : ℕ} {f : Bool} {l : ℕ} {r : Done} {t e q : List 
 
 late : (s : List ℕ) (n : ℕ) (f : Bool) (l : ℕ) (t e q : List ℕ) → length s ≤ 65536 → first-high 0 s ≡ none → n ≤ 1000000 → l ≤ 64
     → refusal (call s n f l t e q) ≡ first (when (ltb l (state-of (written s n f) .peak)) 5 l ∷ short? rows (call s n f l t e q) ∷ short? errors (call s n f l t e q) ∷ short? requests (call s n f l t e q) ∷ [])
-unfolding refusal
+unfolding refusal needs
 late s n f l t e q a b c d = rw (le-ltb 65536 (length s) a, b, le-ltb 1000000 n c, le-ltb 64 l d)
 
 -- one of the last four refusals, or none

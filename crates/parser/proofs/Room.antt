@@ -1,76 +1,28 @@
--- Demand 3, of the outcome as it is defined: an answer in smaller limits is given in larger ones, word for word; a refusal for rows, errors
--- or requests names the need, which no limit enters, and comes exactly when the room is less.
+-- When a call is refused for want of room and when it is answered, of the outcome as it is defined; and an answer in full.
 use mathlib.Core.Path.{_≡_, refl, ap, ap₂, sym, subst, _∙_}
 use mathlib.Core.Bool.{Bool, true, false}
 use mathlib.Core.List.{List, [], _∷_}
 use mathlib.Core.Option.{Option, none, some}
-use Prim.Native.Nat.{ℕ, _*_, _-_, _≤_, _<_}
+use Prim.Native.Nat.{ℕ, _*_, _<_}
 use native.Mathlib.Omega.{arith}
 use borrow.Author.Tests.{lt-ltb, le-ltb, ltb-true, ltb-false}
 use lib.Dec.{ltb}
-use lib.ListN.{length, take}
-use lib.Seq.{take-at}
+use lib.ListN.{length}
 use Rattle.reading.specs.Reading.{rows-of, state-of}
-use Rattle.reading.specs.Table.{Answer, answered, refused, Test, when, found, first, first-high, row-width, error-width, request-width, row-words, error-words, request-words, room, zeros}
+use Rattle.reading.specs.Table.{Answer, answered, refused, Test, when, found, first, first-high, row-width, error-width, row-words, error-words, request-words, room, filled}
 use Rattle.table.proofs.Holds.{words-length, rows-written, errors-written, requests-written}
-use Rattle.reading.specs.Outcome.{Call, Counts, Outcome, reading, needs, refusal, settled, outcome}
+use Rattle.reading.specs.Outcome.{Call, Counts, reading, needs, refusal, settled, outcome}
+use Rattle.parser.specs.Seen.{code-of, given-of, Seen, exported}
+use Rattle.parser.specs.Demand.{count, table, Answered}
+pub use Rattle.parser.specs.Demand.{Kind, rows, errors, requests, number, width, lent, need, Readable, Enough, Short, Before, Lacks}
 
--- The three kinds of records -----------------------------------------------
-
-pub data Kind : Type 0 where
-  rows errors requests : Kind
-
-abbrev pub number : Kind → ℕ
-number rows = 6
-number errors = 7
-number requests = 8
-
-abbrev pub width : Kind → ℕ
-width rows = row-width
-width errors = error-width
-width requests = request-width
-
--- how many the reading has
-abbrev pub need : Kind → Call → ℕ
-need rows c = needs c .rows
-need errors c = needs c .errors
-need requests c = needs c .requests
-
--- the table that is lent, and the words that the reading puts into it
-abbrev pub lent : Kind → Call → List ℕ
-lent rows c = c .rows
-lent errors c = c .errors
-lent requests c = c .requests
-
+-- the words that the reading puts into a table
 abbrev pub words : Kind → Call → List ℕ
 words rows c = row-words (rows-of (reading c))
 words errors c = error-words (state-of (reading c) .errors)
 words requests c = request-words (state-of (reading c) .requests)
 
--- the table afterwards
-abbrev pub left-in : Kind → Outcome → List ℕ
-left-in rows o = o .rows
-left-in errors o = o .errors
-left-in requests o = o .requests
-
--- the same call with another table
-abbrev pub lending : Kind → List ℕ → Call → Call
-lending rows t c = record { text = c .text; scope = c .scope; swallow = c .swallow; level = c .level; rows = t; errors = c .errors; requests = c .requests }
-lending errors t c = record { text = c .text; scope = c .scope; swallow = c .swallow; level = c .level; rows = c .rows; errors = t; requests = c .requests }
-lending requests t c = record { text = c .text; scope = c .scope; swallow = c .swallow; level = c .level; rows = c .rows; errors = c .errors; requests = t }
-
 -- What refusals say --------------------------------------------------------
-
--- the text can be read from this state within this level limit: none of 1 to 5
-pub record Readable (c : Call) : Type 0 where
-  pub short : length (c .text) ≤ 65536
-  pub plain : first-high 0 (c .text) ≡ none
-  pub scope : c .scope ≤ 1000000
-  pub level : c .level ≤ 64
-  pub deep : state-of (reading c) .peak ≤ c .level
-
-abbrev pub Enough : Kind → Call → Type 0
-Enough k c = need k c ≤ room (width k) (lent k c)
 
 abbrev pub tight : Kind → Call → Bool
 tight k c = ltb (room (width k) (lent k c)) (need k c)
@@ -123,20 +75,12 @@ five : (a b c d e : Test) (ts : List Test) → a ≡ none → b ≡ none → c �
 five a b c d e ts p q r s t = rw (p, q, r, s, t)
 
 pub readable-rooms : (c : Call) → Readable c → refusal c ≡ rooms c
-unfolding refusal
+unfolding refusal needs
 readable-rooms c h =
     five _ _ _ _ _ (short? rows c ∷ short? errors c ∷ short? requests c ∷ []) (when-false _ _ _ (le-ltb 65536 (length (c .text)) (h .short))) (ap (λ o. found o 2) (h .plain))
     (when-false _ _ _ (le-ltb 1000000 (c .scope) (h .scope))) (when-false _ _ _ (le-ltb 64 (c .level) (h .level))) (when-false _ _ _ (le-ltb (c .level) (state-of (reading c) .peak) (h .deep)))
 
--- An answer says that nothing is refused, and the other way round -----------
-
-answer-none : (c : Call) (n : Counts) → outcome c .answer ≡ answered n → (refusal c ≡ none) × (n ≡ needs c)
-unfolding outcome
-answer-none c n e = go (refusal c) refl e
-  where
-    go : (t : Test) → refusal c ≡ t → settled c t .answer ≡ answered n → (refusal c ≡ none) × (n ≡ needs c)
-    go none p q = (p, let z : answered (needs c) ≡ answered n = q in cc)
-    go (some x) p q = let z : _≡_ {A = ℕ} 0 1 = cc in absurd (let y : ⊥ = omega arith in y)
+-- Answers and refusals of the tests, and of the outcome -----------------------
 
 refused-is : (m h n g : ℕ) → _≡_ {A = Answer Counts} (refused m h) (refused n g) → (m ≡ n) × (h ≡ g)
 refused-is m h n g e = (cc, cc)
@@ -167,8 +111,8 @@ eight a b c d e f g h z =
     (x₁ .0, x₂ .0, x₃ .0, x₄ .0, x₅ .0, x₆ .0, x₇ .0, x₈ .0)
 
 -- nothing is refused: the call is readable, and there is room for each kind
-none-fits : (c : Call) → refusal c ≡ none → Readable c × ((k : Kind) → Enough k c)
-unfolding refusal
+pub none-fits : (c : Call) → refusal c ≡ none → Readable c × ((k : Kind) → Enough k c)
+unfolding refusal needs
 none-fits c e =
     let x = eight _ _ _ _ _ _ _ _ e in (
       record {
@@ -195,77 +139,34 @@ fits-none c h r =
 
 -- Answers ------------------------------------------------------------------
 
--- what an answer gives, in full: the counts, the end state and the records are those of the reading
-pub record Given (c : Call) (n : Counts) : Type 0 where
-  pub answer : outcome c .answer ≡ answered n
-  pub counts : n ≡ needs c
-  pub scope : outcome c .scope ≡ state-of (reading c) .scope
-  pub swallow : outcome c .swallow ≡ state-of (reading c) .swallow
-  pub records : (k : Kind) → take (need k c * width k) (left-in k (outcome c)) ≡ words k c
-
 pub words-are : (k : Kind) (c : Call) → length (words k c) ≡ need k c * width k
-unfolding needs
 words-are rows c = words-length rows-written (rows-of (reading c))
 words-are errors c = words-length errors-written (state-of (reading c) .errors)
 words-are requests c = words-length requests-written (state-of (reading c) .requests)
 
-none-given : (c : Call) → refusal c ≡ none → Given c (needs c)
-unfolding outcome
-none-given c e =
-    record {
-      answer = ap (λ t. settled c t .answer) e;
-      counts = refl;
-      scope = ap (λ t. settled c t .scope) e;
-      swallow = ap (λ t. settled c t .swallow) e;
-      records = λ k. ap (λ t. take (need k c * width k) (left-in k (settled c t))) e ∙ held k;
-    }
+-- what the caller sees of an answer, in full
+pub record Given (c : Call) (x : Seen) : Type 0 where
+  pub answered : Answered x
+  pub counts : (k : Kind) → count k x ≡ need k c
+  pub scope : x .end-scope ≡ state-of (reading c) .scope
+  pub swallow : x .end-swallow ≡ state-of (reading c) .swallow
+  pub tables : (k : Kind) → table k x ≡ filled (words k c) (lent k c)
+
+pub none-given : (c : Call) → refusal c ≡ none → Given c (exported (outcome c))
+unfolding outcome exported needs
+none-given c e = subst (λ (t : Test). Given c (exported (settled c t))) (sym e) (record { answered = refl; counts = counts-are; scope = refl; swallow = refl; tables = tables-are })
   where
-    held : (k : Kind) → take (need k c * width k) (left-in k (settled c none)) ≡ words k c
-    held rows = take-at (words rows c) (zeros (length (c .rows) - length (words rows c))) _ (words-are rows c)
-    held errors = take-at (words errors c) (zeros (length (c .errors) - length (words errors c))) _ (words-are errors c)
-    held requests = take-at (words requests c) (zeros (length (c .requests) - length (words requests c))) _ (words-are requests c)
+    counts-are : (k : Kind) → count k (exported (settled c none)) ≡ need k c
+    counts-are rows = refl
+    counts-are errors = refl
+    counts-are requests = refl
 
--- the same text from the same state, in other limits
-abbrev pub limited : Call → ℕ → List ℕ → List ℕ → List ℕ → Call
-limited c l t e q = record { text = c .text; scope = c .scope; swallow = c .swallow; level = l; rows = t; errors = e; requests = q }
-
-needs-limited : (c : Call) (l : ℕ) (t e q : List ℕ) → needs (limited c l t e q) ≡ needs c
-unfolding needs
-needs-limited c l t e q = refl
-
--- what is answered in the smaller limits is answered in the larger ones: the same counts, end state and records, all of them the reading's
-pub answer-grows : (c : Call) (l : ℕ) (t e q : List ℕ) → c .level ≤ l → l ≤ 64 → ((k : Kind) → room (width k) (lent k c) ≤ room (width k) (lent k (limited c l t e q)))
-    → (n : Counts) → outcome c .answer ≡ answered n → Given c n × Given (limited c l t e q) n
-unfolding needs
-answer-grows c l t e q h i r n a =
-    let x = answer-none c n a in
-    let y = none-fits c (x .0) in
-    let z : Readable (limited c l t e q) = record { short = y .0 .short; plain = y .0 .plain; scope = y .0 .scope; level = i; deep = omega (arith, y .0 .deep) } in (
-      subst (Given c) (sym (x .1)) (none-given c (x .0)),
-      subst (Given (limited c l t e q)) (sym (x .1)) (none-given (limited c l t e q) (fits-none (limited c l t e q) z λ k. enough k (y .1 k) (r k))),
-    )
-  where
-    enough : (k : Kind) → Enough k c → room (width k) (lent k c) ≤ room (width k) (lent k (limited c l t e q)) → Enough k (limited c l t e q)
-    enough rows a b = omega arith
-    enough errors a b = omega arith
-    enough requests a b = omega arith
+    tables-are : (k : Kind) → table k (exported (settled c none)) ≡ filled (words k c) (lent k c)
+    tables-are rows = refl
+    tables-are errors = refl
+    tables-are requests = refl
 
 -- Refusals for room --------------------------------------------------------
-
--- there is room for the kinds that are tested before this one
-abbrev pub Before : Kind → Call → Type 0
-Before rows c = Unit {0}
-Before errors c = Enough rows c
-Before requests c = Enough rows c × Enough errors c
-
-abbrev pub Short : Kind → Call → Type 0
-Short k c = room (width k) (lent k c) < need k c
-
--- when a refusal for room comes
-pub record Lacks (k : Kind) (c : Call) : Type 0 where
-  pub readable : Readable c
-  pub before : Before k c
-  pub short : Short k c
 
 pub lacks-rooms : (k : Kind) (c : Call) → Before k c → Short k c → rooms c ≡ some (number k, need k c)
 lacks-rooms rows c b h = ap (λ x. first (when x 6 (need rows c) ∷ short? errors c ∷ short? requests c ∷ [])) (lt-ltb _ _ h)
@@ -312,15 +213,15 @@ rooms-lack requests c g e =
     ((ltb-false _ _ (x .0), ltb-false _ _ (x .1)), ltb-true _ _ (x .2), x .3)
 
 -- a refusal that is none of 1 to 5 comes from the tests behind theirs
-five-other : (a c d e : Bool) (b : Option ℕ) (f h i j : ℕ) (ts : List Test) (n g : ℕ) → 5 < n
+five-other : (a c d e : Bool) (b : Option ℕ) (f h i j : ℕ) (ts : List Test) (n g : ℕ) → ((m : ℕ) → 0 < m → m < 6 → m ≡ n → ⊥)
     → first (when a 1 f ∷ found b 2 ∷ when c 3 h ∷ when d 4 i ∷ when e 5 j ∷ ts) ≡ some (n, g)
     → (a ≡ false) × (b ≡ none) × (c ≡ false) × (d ≡ false) × (e ≡ false) × (first ts ≡ some (n, g))
 five-other a c d e b f h i j ts n g l z =
-    let x₁ = when-other a 1 f n g (found b 2 ∷ when c 3 h ∷ when d 4 i ∷ when e 5 j ∷ ts) (λ p. omega arith) z in
-    let x₂ = found-other b 2 n g (when c 3 h ∷ when d 4 i ∷ when e 5 j ∷ ts) (λ p. omega arith) (x₁ .1) in
-    let x₃ = when-other c 3 h n g (when d 4 i ∷ when e 5 j ∷ ts) (λ p. omega arith) (x₂ .1) in
-    let x₄ = when-other d 4 i n g (when e 5 j ∷ ts) (λ p. omega arith) (x₃ .1) in
-    let x₅ = when-other e 5 j n g ts (λ p. omega arith) (x₄ .1) in
+    let x₁ = when-other a 1 f n g (found b 2 ∷ when c 3 h ∷ when d 4 i ∷ when e 5 j ∷ ts) (l 1 (omega arith) (omega arith)) z in
+    let x₂ = found-other b 2 n g (when c 3 h ∷ when d 4 i ∷ when e 5 j ∷ ts) (l 2 (omega arith) (omega arith)) (x₁ .1) in
+    let x₃ = when-other c 3 h n g (when d 4 i ∷ when e 5 j ∷ ts) (l 3 (omega arith) (omega arith)) (x₂ .1) in
+    let x₄ = when-other d 4 i n g (when e 5 j ∷ ts) (l 4 (omega arith) (omega arith)) (x₃ .1) in
+    let x₅ = when-other e 5 j n g ts (l 5 (omega arith) (omega arith)) (x₄ .1) in
     (x₁ .0, x₂ .0, x₃ .0, x₄ .0, x₅ .0, x₅ .1)
 
 room-number : (k : Kind) → 5 < number k
@@ -329,9 +230,9 @@ room-number errors = omega arith
 room-number requests = omega arith
 
 room-readable : (k : Kind) (c : Call) (g : ℕ) → refusal c ≡ some (number k, g) → Readable c × (rooms c ≡ some (number k, g))
-unfolding refusal
+unfolding refusal needs
 room-readable k c g e =
-    let x = five-other _ _ _ _ (first-high 0 (c .text)) _ _ _ _ (short? rows c ∷ short? errors c ∷ short? requests c ∷ []) (number k) g (room-number k) e in (
+    let x = five-other _ _ _ _ (first-high 0 (c .text)) _ _ _ _ (short? rows c ∷ short? errors c ∷ short? requests c ∷ []) (number k) g (λ m p q r. omega (arith, room-number k)) e in (
       record {
         short = ltb-false _ _ (x .0);
         plain = x .1;
@@ -349,35 +250,27 @@ refused-lacks k c g e =
     let y = rooms-lack k c g (x .1) in
     (record { readable = x .0; before = y .0; short = y .1 }, y .2)
 
--- another table of one kind changes no need, and none of the tests before that kind's
-lending-need : (k : Kind) (t : List ℕ) (c : Call) → need k (lending k t c) ≡ need k c
-unfolding needs
-lending-need rows t c = refl
-lending-need errors t c = refl
-lending-need requests t c = refl
+-- What is seen of an answer --------------------------------------------------
 
-lending-lacks : (k : Kind) (t : List ℕ) (c : Call) → Lacks k c → room (width k) t < need k c → Lacks k (lending k t c)
-unfolding needs
-lending-lacks rows t c x h = record { readable = record { short = x .readable .short; plain = x .readable .plain; scope = x .readable .scope; level = x .readable .level; deep = x .readable .deep }; before = tt; short = h }
-lending-lacks errors t c x h = record { readable = record { short = x .readable .short; plain = x .readable .plain; scope = x .readable .scope; level = x .readable .level; deep = x .readable .deep }; before = x .before; short = h }
-lending-lacks requests t c x h = record { readable = record { short = x .readable .short; plain = x .readable .plain; scope = x .readable .scope; level = x .readable .level; deep = x .readable .deep }; before = x .before; short = h }
+pub code-refused : (k : Kind) (r : Answer Counts) → code-of r ≡ number k → r ≡ refused (number k) (given-of r)
+code-refused k (answered n) h = absurd (let z : ⊥ = omega (arith, room-number k) in z)
+code-refused k (refused n g) h = ap (λ (i : ℕ). refused i g) h
 
-lending-room : (k : Kind) (t : List ℕ) (c : Call) → Short k (lending k t c) → room (width k) t < need k c
-unfolding needs
-lending-room rows t c h = h
-lending-room errors t c h = h
-lending-room requests t c h = h
+-- no refusal has the number 0, so that what is seen as an answer is one
+number-not-zero : (c : Call) (g : ℕ) → refusal c ≡ some (0, g) → ⊥
+unfolding refusal needs
+number-not-zero c g e =
+    let x =
+    five-other (ltb 65536 (length (c .text))) (ltb 1000000 (c .scope)) (ltb 64 (c .level)) (ltb (c .level) (state-of (reading c) .peak)) (first-high 0 (c .text)) (length (c .text)) (c .scope)
+    (c .level) (c .level) (short? rows c ∷ short? errors c ∷ short? requests c ∷ []) 0 g (λ m p q r. omega arith) e in
+    let y = when-other (tight rows c) 6 (need rows c) 0 g (short? errors c ∷ short? requests c ∷ []) (λ (p : 6 ≡ 0). omega arith) (x .5) in
+    let z = when-other (tight errors c) 7 (need errors c) 0 g (short? requests c ∷ []) (λ (p : 7 ≡ 0). omega arith) (y .1) in
+    none-some (0, g) (when-other (tight requests c) 8 (need requests c) 0 g [] (λ (p : 8 ≡ 0). omega arith) (z .1) .1)
 
--- The other limits unchanged: with another table of that kind the refusal comes exactly if its room is less than what was given, and gives
--- the same.
-pub refusal-exact : (k : Kind) (c : Call) (g : ℕ) → outcome c .answer ≡ refused (number k) g → (t : List ℕ)
-    → (room (width k) t < g → outcome (lending k t c) .answer ≡ refused (number k) g)
-    × ((j : ℕ) → outcome (lending k t c) .answer ≡ refused (number k) j → (room (width k) t < g) × (j ≡ g))
-refusal-exact k c g e t =
-    let x = refused-lacks k c g e in (
-      λ h. lacks-refused k (lending k t c) (lending-lacks k t c (x .0) (omega (arith, x .1))) ∙ ap (refused (number k)) (lending-need k t c ∙ sym (x .1)),
-      λ j f.
-          let y = refused-lacks k (lending k t c) j f in
-          let z = lending-room k t c (y .0 .short) in
-          (omega (arith, x .1), y .1 ∙ lending-need k t c ∙ sym (x .1)),
-    )
+pub answered-none : (c : Call) → Answered (exported (outcome c)) → refusal c ≡ none
+unfolding outcome exported
+answered-none c e = go (refusal c) refl e
+  where
+    go : (t : Test) → refusal c ≡ t → code-of (settled c t .answer) ≡ 0 → refusal c ≡ none
+    go none p q = p
+    go (some (m, h)) p q = absurd (number-not-zero c h (p ∙ ap (λ (i : ℕ). some (i, h)) q))

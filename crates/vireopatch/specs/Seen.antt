@@ -1,64 +1,16 @@
 -- What a caller in C or Rust sees of a call: the number returned, the numbers behind the pointers, and the tables. Each is a function of what
--- crate reading defines for that call.
-use mathlib.Core.Bool.{Bool, cond}
+-- crate reading defines for that call. Crate parser has that of reading a text, since its call means the same.
+use mathlib.Core.Bool.{cond}
 use mathlib.Core.List.{List}
 use mathlib.Core.Option.{Option, none, some}
 use Prim.Native.Nat.{ℕ}
 use lib.Dec.{eqb}
 use Rattle.reading.specs.Table.{Answer, answered, refused}
-use Rattle.reading.specs.Outcome.{Counts, Outcome}
 use Rattle.reading.specs.Number.{Base, hexadecimal, decimal, binary, number-value}
 use Rattle.reading.specs.Items.{Listed}
 use Rattle.reading.specs.Walk.{Subtree}
-
--- 0 for an answer, or the refusal's number
-abbrev pub code-of : {A : Type 0} → Answer A → ℕ
-code-of (answered x) = 0
-code-of (refused n g) = n
-
--- 0 for an answer, or what the refusal gives
-abbrev pub given-of : {A : Type 0} → Answer A → ℕ
-given-of (answered x) = 0
-given-of (refused n g) = g
-
--- Reading a text ------------------------------------------------------------
-
--- a refusal has no records
-abbrev pub counts-of : Answer Counts → Counts
-counts-of (answered x) = x
-counts-of (refused n g) = record { rows = 0; errors = 0; requests = 0 }
-
-pub record Seen : Type 0 where
-  pub code : ℕ
-  pub rows : List ℕ
-  pub errors : List ℕ
-  pub requests : List ℕ
-  pub row-count : ℕ
-  pub error-count : ℕ
-  pub request-count : ℕ
-  pub end-scope : ℕ
-  pub end-swallow : Bool
-  pub given : ℕ
-
--- in the order of the call's parameters
-abbrev pub seen : ℕ → List ℕ → List ℕ → List ℕ → ℕ → ℕ → ℕ → ℕ → Bool → ℕ → Seen
-seen r t e q nt ne nq n f g =
-    record { code = r; rows = t; errors = e; requests = q; row-count = nt; error-count = ne; request-count = nq; end-scope = n; end-swallow = f; given = g }
-
-unfoldable pub exported : Outcome → Seen
-exported o =
-    record {
-      code = code-of (o .answer);
-      rows = o .rows;
-      errors = o .errors;
-      requests = o .requests;
-      row-count = counts-of (o .answer) .rows;
-      error-count = counts-of (o .answer) .errors;
-      request-count = counts-of (o .answer) .requests;
-      end-scope = o .scope;
-      end-swallow = o .swallow;
-      given = given-of (o .answer);
-    }
+pub use Rattle.parser.specs.Seen.{code-of, given-of, counts-of, Seen, seen}
+unfoldable pub use Rattle.parser.specs.Seen.{exported}
 
 -- Number text to value ------------------------------------------------------
 
