@@ -7,6 +7,7 @@ use lib.Dec.{ltb}
 use lib.ListN.{length}
 use Rattle.reading.specs.Grammar.{Rows, Rule, Parser}
 use Rattle.reading.specs.Summary.{Summary, fits, fails, Scan, scan, scans}
+use Rattle.reading.specs.Table.{max-text}
 use Rattle.table.specs.Words.{HoldsRows}
 use Rattle.cursor.specs.Text.{here, cursor}
 use Rattle.cursor.specs.declared.Cursor.{Cursor}
@@ -54,6 +55,6 @@ pub record Leafs (g : Parser) (s : List ℕ) (c : Cursor) (t t′ : List ℕ) (r
 
 -- where a reader may be called: the text is short enough, and there are at most four rows for each byte behind, and k more
 pub record Ready (k : ℕ) (s : List ℕ) (c : Cursor) : Type 0 where
-  pub small : length s ≤ 65536
+  pub small : length s ≤ max-text
   pub within : c .at .0 ≤ length s
   pub few : c .count .0 ≤ 4 * c .at .0 + k

@@ -104,7 +104,7 @@ fn part(kind: u8, s: &[u8], low: usize) {
     if s.len() < low {
         return;
     }
-    if 65536 < s.len() {
+    if reading::MAX_TEXT < s.len() {
         return;
     }
     let mut rows = [0u32; 1536];
@@ -151,11 +151,11 @@ fn show(r: Read, rows: &[u32]) {
 fn print_rows(rows: &[u32], n: usize) {
     let mut i: usize = 0;
     while i < rows.len() {
-        if n <= i / 6 {
+        if n <= i / table::ROW {
             return;
         }
         io::print_decimal(STDOUT_FILENO, wide(rows[i]));
-        if i % 6 == 5 {
+        if i % table::ROW == table::ROW - 1 {
             io::write_all(STDOUT_FILENO, b"\n");
         } else {
             io::write_all(STDOUT_FILENO, b" ");

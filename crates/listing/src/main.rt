@@ -20,18 +20,18 @@ fn main() {
 
 // Room for 2,048 rows, 64 errors and 64 requests; level 32; from scope 0 with the flag clear.
 fn listing(text: &[u8]) {
-    let mut rows = [0u32; 12288];
-    let mut errors = [0u32; 192];
-    let mut requests = [0u32; 128];
+    let mut rows = [0u32; 2048 * table::ROW];
+    let mut errors = [0u32; 64 * table::ERROR];
+    let mut requests = [0u32; 64 * table::REQUEST];
     let r = parser::read(text, 0, false, 32, &mut rows, &mut errors, &mut requests);
     match r {
         Answer::Read(x) => {
             io::write_all(STDOUT_FILENO, b"kind size tlow low high detail\n");
-            records(&rows, x.rows, 6);
+            records(&rows, x.rows, table::ROW);
             io::write_all(STDOUT_FILENO, b"error low high\n");
-            records(&errors, x.errors, 3);
+            records(&errors, x.errors, table::ERROR);
             io::write_all(STDOUT_FILENO, b"request low high\n");
-            records(&requests, x.requests, 2);
+            records(&requests, x.requests, table::REQUEST);
             end(x);
         }
         Answer::TooLong(n) => refused(1, n),

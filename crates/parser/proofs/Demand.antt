@@ -11,7 +11,7 @@ use lib.ListN.{length, take, drop, length-append}
 use lib.Seq.{take-at, drop-at}
 use Rattle.reading.specs.Grammar.{Rows, Reply}
 use Rattle.reading.specs.Reading.{rows-of, state-of}
-use Rattle.reading.specs.Table.{first-high, row-words, error-words, request-words, zeros}
+use Rattle.reading.specs.Table.{max-text, max-level, first-high, row-words, error-words, request-words, zeros}
 use Rattle.reading.specs.Outcome.{Call, reading, outcome}
 use Rattle.parser.specs.Answers.{Meets}
 use Rattle.parser.specs.Seen.{code-of, Seen, exported, answer-seen}
@@ -124,10 +124,10 @@ module _ (a b : Call) (s : SameText a b) where
   same-words errors = ap (λ (o : Reply Rows). error-words (state-of o .errors)) same-reading
   same-words requests = ap (λ (o : Reply Rows). request-words (state-of o .requests)) same-reading
 
-  still-readable : a .level ≤ b .level → b .level ≤ 64 → Readable a → Readable b
+  still-readable : a .level ≤ b .level → b .level ≤ max-level → Readable a → Readable b
   still-readable h i r =
       record {
-        short = subst (λ (t : List ℕ). length t ≤ 65536) (s .text) (r .short);
+        short = subst (λ (t : List ℕ). length t ≤ max-text) (s .text) (r .short);
         plain = ap (first-high 0) (sym (s .text)) ∙ r .plain;
         scope = omega (arith, s .scope, r .scope);
         level = i;

@@ -11,7 +11,7 @@ use lib.Dec.{ltb}
 use lib.ListN.{length, take}
 use Rattle.reading.specs.Grammar.{Rows, State, Input, Reply, ok, err}
 use Rattle.reading.specs.Reading.{written, start, rows-of, state-of}
-use Rattle.reading.specs.Table.{answered, Test, when, first, first-high, row-width, error-width, request-width, row-words, error-words, request-words, room, zeros, filled}
+use Rattle.reading.specs.Table.{answered, Test, when, first, first-high, row-width, error-width, request-width, row-words, error-words, request-words, room, zeros, filled, max-text, max-scope, max-level}
 use Rattle.reading.specs.Outcome.{Call, Outcome, reading, needs, refusal, left, settled, outcome}
 use Rattle.reading.proofs.Answers.{Answered, written-answers}
 use Rattle.table.specs.Words.{Holds, HoldsRows}
@@ -47,7 +47,7 @@ module _ {s : List ℕ} {n : ℕ} {f : Bool} {l : ℕ} {r : Done} {t e q : List 
   deep-so : l < state-of (written s n f) .peak → refusal this ≡ some (5, l)
   unfolding refusal
   deep-so h =
-      rw (le-ltb 65536 (length s) (x .short), x .plain, le-ltb 1000000 n (x .scope), le-ltb 64 l (x .level), lt-ltb l (state-of (written s n f) .peak) h)
+      rw (le-ltb max-text (length s) (x .short), x .plain, le-ltb max-scope n (x .scope), le-ltb max-level l (x .level), lt-ltb l (state-of (written s n f) .peak) h)
 
   -- what does not read is too deep
   not-read : ((d : Cursor) (st : Kept) → r ≡ Got d st → ⊥) → l < state-of (written s n f) .peak
@@ -179,10 +179,10 @@ module _ {s : List ℕ} {n : ℕ} {f : Bool} {l : ℕ} {r : Done} {t e q : List 
 
 -- Tables of the same lengths: past refusals 1 to 4 the outcome does not look at what they held -----------------
 
-late : (s : List ℕ) (n : ℕ) (f : Bool) (l : ℕ) (t e q : List ℕ) → length s ≤ 65536 → first-high 0 s ≡ none → n ≤ 1000000 → l ≤ 64
+late : (s : List ℕ) (n : ℕ) (f : Bool) (l : ℕ) (t e q : List ℕ) → length s ≤ max-text → first-high 0 s ≡ none → n ≤ max-scope → l ≤ max-level
     → refusal (call s n f l t e q) ≡ first (when (ltb l (state-of (written s n f) .peak)) 5 l ∷ short? rows (call s n f l t e q) ∷ short? errors (call s n f l t e q) ∷ short? requests (call s n f l t e q) ∷ [])
 unfolding refusal needs
-late s n f l t e q a b c d = rw (le-ltb 65536 (length s) a, b, le-ltb 1000000 n c, le-ltb 64 l d)
+late s n f l t e q a b c d = rw (le-ltb max-text (length s) a, b, le-ltb max-scope n c, le-ltb max-level l d)
 
 -- one of the last four refusals, or none
 settled-same : (c d : Call) (a b g h : Bool) (i j k m : ℕ) → ((x : Test) → x ≡ none → settled c x ≡ settled d x) → ((n y : ℕ) → 4 < n → settled c (some (n, y)) ≡ settled d (some (n, y)))
@@ -219,7 +219,7 @@ module _ (s : List ℕ) (n : ℕ) (f : Bool) (l : ℕ) (t t₀ e e₀ q q₀ : L
   unfolding refusal needs
   tests-same = rw (a, b, c)
 
-  pub lengths-same : length s ≤ 65536 → first-high 0 s ≡ none → n ≤ 1000000 → l ≤ 64 → outcome (call s n f l t e q) ≡ outcome (call s n f l t₀ e₀ q₀)
+  pub lengths-same : length s ≤ max-text → first-high 0 s ≡ none → n ≤ max-scope → l ≤ max-level → outcome (call s n f l t e q) ≡ outcome (call s n f l t₀ e₀ q₀)
   unfolding outcome
   lengths-same h i j k =
       ap (settled (call s n f l t e q)) (tests-same ∙ late s n f l t₀ e₀ q₀ h i j k)
@@ -230,25 +230,25 @@ module _ (s : List ℕ) (n : ℕ) (f : Bool) (l : ℕ) (t t₀ e e₀ q q₀ : L
 -- The first four refusals --------------------------------------------------
 
 module _ (s : List ℕ) (n : ℕ) (f : Bool) (l : ℕ) (t e q : List ℕ) where
-  pub long-meets : 65536 < length s → Meets (call s n f l t e q) t e q (TooLong (length s))
+  pub long-meets : max-text < length s → Meets (call s n f l t e q) t e q (TooLong (length s))
   unfolding outcome refusal
-  long-meets h = record { outcome-is = rw (lt-ltb 65536 (length s) h) }
+  long-meets h = record { outcome-is = rw (lt-ltb max-text (length s) h) }
 
-  pub high-meets : (i : ℕ) → length s ≤ 65536 → some i ≡ first-high 0 s → Meets (call s n f l t e q) t e q (HighByte i)
+  pub high-meets : (i : ℕ) → length s ≤ max-text → some i ≡ first-high 0 s → Meets (call s n f l t e q) t e q (HighByte i)
   unfolding outcome refusal
-  high-meets i a h = record { outcome-is = rw (le-ltb 65536 (length s) a, sym h) }
+  high-meets i a h = record { outcome-is = rw (le-ltb max-text (length s) a, sym h) }
 
-  pub scope-meets : length s ≤ 65536 → none ≡ first-high 0 s → 1000000 < n → Meets (call s n f l t e q) t e q (ScopeTooLarge n)
+  pub scope-meets : length s ≤ max-text → none ≡ first-high 0 s → max-scope < n → Meets (call s n f l t e q) t e q (ScopeTooLarge n)
   unfolding outcome refusal
-  scope-meets a b h = record { outcome-is = rw (le-ltb 65536 (length s) a, sym b, lt-ltb 1000000 n h) }
+  scope-meets a b h = record { outcome-is = rw (le-ltb max-text (length s) a, sym b, lt-ltb max-scope n h) }
 
-  pub level-meets : length s ≤ 65536 → none ≡ first-high 0 s → n ≤ 1000000 → 64 < l → Meets (call s n f l t e q) t e q (LevelTooLarge l)
+  pub level-meets : length s ≤ max-text → none ≡ first-high 0 s → n ≤ max-scope → max-level < l → Meets (call s n f l t e q) t e q (LevelTooLarge l)
   unfolding outcome refusal
-  level-meets a b c h = record { outcome-is = rw (le-ltb 65536 (length s) a, sym b, le-ltb 1000000 n c, lt-ltb 64 l h) }
+  level-meets a b c h = record { outcome-is = rw (le-ltb max-text (length s) a, sym b, le-ltb max-scope n c, lt-ltb max-level l h) }
 
 -- What the reader of a source file has done, from the start ----------------------------------------------------
 
-pub does-so : (s : List ℕ) (n : ℕ) (f : Bool) (l : ℕ) {r : Done} (t₀ e₀ q₀ t e q : List ℕ) → length s ≤ 65536 → none ≡ first-high 0 s → n ≤ 1000000 → l ≤ 64
+pub does-so : (s : List ℕ) (n : ℕ) (f : Bool) (l : ℕ) {r : Done} (t₀ e₀ q₀ t e q : List ℕ) → length s ≤ max-text → none ≡ first-high 0 s → n ≤ max-scope → l ≤ max-level
     → Does source-file s (cursor 0 0 false) (record { scope = n; swallow = f; errors = 0; requests = 0 }) l (tables t₀ e₀ q₀) (tables t e q) r → Read-so s n f l r t e q
 unfolding written rules
 does-so s n f l {r} t₀ e₀ q₀ t e q a b c d x =
@@ -265,7 +265,7 @@ does-so s n f l {r} t₀ e₀ q₀ t e q a b c d x =
 
 -- an outcome for the tables as they were lent
 pub meets-lent : (s : List ℕ) (n : ℕ) (f : Bool) (l : ℕ) (t t₀ e e₀ q q₀ t′ e′ q′ : List ℕ) (r : Answer) → length t ≡ length t₀ → length e ≡ length e₀ → length q ≡ length q₀
-    → length s ≤ 65536 → none ≡ first-high 0 s → n ≤ 1000000 → l ≤ 64 → Meets (call s n f l t e q) t′ e′ q′ r → Meets (call s n f l t₀ e₀ q₀) t′ e′ q′ r
+    → length s ≤ max-text → none ≡ first-high 0 s → n ≤ max-scope → l ≤ max-level → Meets (call s n f l t e q) t′ e′ q′ r → Meets (call s n f l t₀ e₀ q₀) t′ e′ q′ r
 meets-lent s n f l t t₀ e e₀ q q₀ t′ e′ q′ r a b c h i j k m =
     record { outcome-is = same r ∙ m .outcome-is ∙ lengths-same s n f l t t₀ e e₀ q q₀ a b c h (sym i) j k }
   where

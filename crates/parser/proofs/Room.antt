@@ -9,7 +9,7 @@ use borrow.Author.Tests.{lt-ltb, le-ltb, ltb-true, ltb-false}
 use lib.Dec.{ltb}
 use lib.ListN.{length}
 use Rattle.reading.specs.Reading.{rows-of, state-of}
-use Rattle.reading.specs.Table.{Answer, answered, refused, Test, when, found, first, first-high, row-width, error-width, row-words, error-words, request-words, room, filled}
+use Rattle.reading.specs.Table.{max-text, max-scope, max-level, Answer, answered, refused, Test, when, found, first, first-high, row-width, error-width, row-words, error-words, request-words, room, filled}
 use Rattle.table.proofs.Holds.{words-length, rows-written, errors-written, requests-written}
 use Rattle.reading.specs.Outcome.{Call, Counts, reading, needs, refusal, settled, outcome}
 use Rattle.parser.specs.Seen.{code-of, given-of, Seen, exported}
@@ -77,8 +77,8 @@ five a b c d e ts p q r s t = rw (p, q, r, s, t)
 pub readable-rooms : (c : Call) → Readable c → refusal c ≡ rooms c
 unfolding refusal needs
 readable-rooms c h =
-    five _ _ _ _ _ (short? rows c ∷ short? errors c ∷ short? requests c ∷ []) (when-false _ _ _ (le-ltb 65536 (length (c .text)) (h .short))) (ap (λ o. found o 2) (h .plain))
-    (when-false _ _ _ (le-ltb 1000000 (c .scope) (h .scope))) (when-false _ _ _ (le-ltb 64 (c .level) (h .level))) (when-false _ _ _ (le-ltb (c .level) (state-of (reading c) .peak) (h .deep)))
+    five _ _ _ _ _ (short? rows c ∷ short? errors c ∷ short? requests c ∷ []) (when-false _ _ _ (le-ltb max-text (length (c .text)) (h .short))) (ap (λ o. found o 2) (h .plain))
+    (when-false _ _ _ (le-ltb max-scope (c .scope) (h .scope))) (when-false _ _ _ (le-ltb max-level (c .level) (h .level))) (when-false _ _ _ (le-ltb (c .level) (state-of (reading c) .peak) (h .deep)))
 
 -- Answers and refusals of the tests, and of the outcome -----------------------
 
@@ -116,10 +116,10 @@ unfolding refusal needs
 none-fits c e =
     let x = eight _ _ _ _ _ _ _ _ e in (
       record {
-        short = ltb-false 65536 (length (c .text)) (when-none _ _ _ (x .0));
+        short = ltb-false max-text (length (c .text)) (when-none _ _ _ (x .0));
         plain = found-none _ _ (x .1);
-        scope = ltb-false 1000000 (c .scope) (when-none _ _ _ (x .2));
-        level = ltb-false 64 (c .level) (when-none _ _ _ (x .3));
+        scope = ltb-false max-scope (c .scope) (when-none _ _ _ (x .2));
+        level = ltb-false max-level (c .level) (when-none _ _ _ (x .3));
         deep = ltb-false (c .level) (state-of (reading c) .peak) (when-none _ _ _ (x .4));
       },
       λ k. enough k (x .5) (x .6) (x .7),
@@ -261,7 +261,7 @@ number-not-zero : (c : Call) (g : ℕ) → refusal c ≡ some (0, g) → ⊥
 unfolding refusal needs
 number-not-zero c g e =
     let x =
-    five-other (ltb 65536 (length (c .text))) (ltb 1000000 (c .scope)) (ltb 64 (c .level)) (ltb (c .level) (state-of (reading c) .peak)) (first-high 0 (c .text)) (length (c .text)) (c .scope)
+    five-other (ltb max-text (length (c .text))) (ltb max-scope (c .scope)) (ltb max-level (c .level)) (ltb (c .level) (state-of (reading c) .peak)) (first-high 0 (c .text)) (length (c .text)) (c .scope)
     (c .level) (c .level) (short? rows c ∷ short? errors c ∷ short? requests c ∷ []) 0 g (λ m p q r. omega arith) e in
     let y = when-other (tight rows c) 6 (need rows c) 0 g (short? errors c ∷ short? requests c ∷ []) (λ (p : 6 ≡ 0). omega arith) (x .5) in
     let z = when-other (tight errors c) 7 (need errors c) 0 g (short? requests c ∷ []) (λ (p : 7 ≡ 0). omega arith) (y .1) in

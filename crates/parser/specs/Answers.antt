@@ -6,7 +6,7 @@ use mathlib.Core.Path.{_≡_}
 use Prim.Native.Nat.{ℕ, _≤_}
 use lib.ListN.{length}
 use Rattle.reading.specs.Reading.{written, start}
-use Rattle.reading.specs.Table.{Answer as Answered, answered, refused, first-high, filled}
+use Rattle.reading.specs.Table.{Answer as Answered, answered, refused, first-high, filled, max-text, max-scope, max-level}
 use Rattle.reading.specs.Outcome.{Call, Counts, Outcome, outcome}
 use Rattle.state.specs.Acts.{tables, log, Acts}
 use Rattle.state.specs.declared.Done.{Done}
@@ -61,10 +61,10 @@ pub record Cleared (t e q t′ e′ q′ : List ℕ) : Type 0 where
 
 -- nothing of 1 to 4 is refused, and this is what reading came to, with these tables
 pub record Read-so (s : List ℕ) (n : ℕ) (f : Bool) (l : ℕ) (r : Done) (t e q : List ℕ) : Type 0 where
-  pub short : length s ≤ 65536
+  pub short : length s ≤ max-text
   pub plain : first-high 0 s ≡ none
-  pub scope : n ≤ 1000000
-  pub level : l ≤ 64
+  pub scope : n ≤ max-scope
+  pub level : l ≤ max-level
   pub t₀ : List ℕ
   pub e₀ : List ℕ
   pub q₀ : List ℕ

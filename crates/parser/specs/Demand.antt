@@ -9,7 +9,7 @@ use mathlib.Core.Option.{none}
 use Prim.Native.Nat.{ℕ, _*_, _-_, _≤_, _<_}
 use lib.ListN.{length, take, drop}
 use Rattle.reading.specs.Reading.{rows-of, state-of}
-use Rattle.reading.specs.Table.{first-high, row-width, error-width, request-width, room, zeros}
+use Rattle.reading.specs.Table.{max-text, max-scope, max-level, first-high, row-width, error-width, request-width, room, zeros}
 use Rattle.reading.specs.Outcome.{Call, reading}
 use Rattle.parser.specs.Seen.{Seen}
 
@@ -66,10 +66,10 @@ Refused k x = x .code ≡ number k
 
 -- none of 1 to 5 applies
 pub record Readable (c : Call) : Type 0 where
-  pub short : length (c .text) ≤ 65536
+  pub short : length (c .text) ≤ max-text
   pub plain : first-high 0 (c .text) ≡ none
-  pub scope : c .scope ≤ 1000000
-  pub level : c .level ≤ 64
+  pub scope : c .scope ≤ max-scope
+  pub level : c .level ≤ max-level
   pub deep : state-of (reading c) .peak ≤ c .level
 
 abbrev pub Enough : Kind → Call → Type 0
@@ -108,7 +108,7 @@ pub record SameText (a b : Call) : Type 0 where
 -- b's limits are no smaller, and its level limit is one that may be given
 pub record Larger (a b : Call) : Type 0 where
   pub level : a .level ≤ b .level
-  pub allowed : b .level ≤ 64
+  pub allowed : b .level ≤ max-level
   pub rooms : (k : Kind) → room-of k a ≤ room-of k b
 
 -- the limits but the room of this kind are equal

@@ -1,4 +1,7 @@
 // The call that reads a text into three lent tables.
+use reading::MAX_LEVEL;
+use reading::MAX_SCOPE;
+use reading::MAX_TEXT;
 use state::Done;
 use state::State;
 use trivia::High;
@@ -94,17 +97,17 @@ pub fn read(
 ) -> Answer
     ensures { λ r. ⌜ Meets (call (now (text .entry)) scope swallow level (now (rows .entry)) (now (errors .entry)) (now (requests .entry))) (now (rows .exit)) (now (errors .exit)) (now (requests .exit)) r ⌝ }
 {
-    if 65536 < text.len() {
+    if MAX_TEXT < text.len() {
         return Answer::TooLong(text.len());
     }
     let high = trivia::first_high(text);
     if let High::At(i) = high {
         return Answer::HighByte(i.0);
     }
-    if 1000000 < scope {
+    if MAX_SCOPE < scope {
         return Answer::ScopeTooLarge(scope);
     }
-    if 64 < level {
+    if MAX_LEVEL < level {
         return Answer::LevelTooLarge(level);
     }
     let start = State {

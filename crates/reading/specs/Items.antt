@@ -9,7 +9,7 @@ use Rattle.reading.specs.Byte.{blank}
 use Rattle.reading.specs.Grammar.{Input, Parser, leaf, run1, comment-rest, unterminated, _▸_}
 use Rattle.reading.specs.Rules.{exactly, cpp-comment, new-line}
 use Rattle.reading.specs.Summary.{Summary, fits, fails, scan, scans}
-use Rattle.reading.specs.Table.{Answer, answered, refused, Test, when, found, first, first-high, room, filled}
+use Rattle.reading.specs.Table.{Answer, answered, refused, Test, when, found, first, max-text, first-high, room, filled}
 
 pub record Item : Type 0 where
   pub kind : ℕ
@@ -65,7 +65,7 @@ pub record Listed : Type 0 where
 unfoldable pub item-refusal : List ℕ → List ℕ → Test
 item-refusal t table =
     first
-    (when (ltb 65536 (length t)) 1 (length t)
+    (when (ltb max-text (length t)) 1 (length t)
     ∷ found (first-high 0 t) 2
     ∷ when (ltb (items t .1 .at) (length t)) 11 (items t .1 .at)
     ∷ when (ltb (room item-width table) (length (items t .0))) 12 (length (items t .0))

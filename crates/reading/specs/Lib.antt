@@ -6,7 +6,6 @@ pub mod Rules
 pub mod Reading
 pub mod Case
 pub mod Texts
-pub mod Sample
 pub mod Summary
 pub mod Table
 pub mod Outcome

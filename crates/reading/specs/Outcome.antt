@@ -8,7 +8,7 @@ use lib.Dec.{leb, ltb}
 use lib.ListN.{length}
 use Rattle.reading.specs.Grammar.{Rows, Reply}
 use Rattle.reading.specs.Reading.{written, rows-of, state-of}
-use Rattle.reading.specs.Table.{Answer, answered, refused, Test, when, found, first, first-high, row-width, error-width, request-width, row-words, error-words, request-words, room, filled}
+use Rattle.reading.specs.Table.{Answer, answered, refused, Test, when, found, first, max-text, max-scope, max-level, first-high, row-width, error-width, request-width, row-words, error-words, request-words, room, filled}
 
 -- what is lent: the text, the starting state, the level limit, and the tables as they stand
 pub record Call : Type 0 where
@@ -45,10 +45,10 @@ needs c =
 unfoldable pub refusal : Call → Test
 refusal c =
     first
-    (when (ltb 65536 (length (c .text))) 1 (length (c .text))
+    (when (ltb max-text (length (c .text))) 1 (length (c .text))
     ∷ found (first-high 0 (c .text)) 2
-    ∷ when (ltb 1000000 (c .scope)) 3 (c .scope)
-    ∷ when (ltb 64 (c .level)) 4 (c .level)
+    ∷ when (ltb max-scope (c .scope)) 3 (c .scope)
+    ∷ when (ltb max-level (c .level)) 4 (c .level)
     ∷ when (ltb (c .level) (state-of (reading c) .peak)) 5 (c .level)
     ∷ when (ltb (room row-width (c .rows)) (needs c .rows)) 6 (needs c .rows)
     ∷ when (ltb (room error-width (c .errors)) (needs c .errors)) 7 (needs c .errors)

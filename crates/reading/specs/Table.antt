@@ -29,6 +29,16 @@ first [] = none
 first (none ∷ ts) = first ts
 first (some x ∷ ts) = some x
 
+-- the limits that document 01 sets: bytes of a text, the starting scope number, the level limit
+abbrev pub max-text : ℕ
+max-text = 65536
+
+abbrev pub max-scope : ℕ
+max-scope = 1000000
+
+abbrev pub max-level : ℕ
+max-level = 64
+
 -- refusal 2: the first place, from i on, of a byte of 128 or more
 abbrev pub first-high : ℕ → List ℕ → Option ℕ
 first-high i [] = none

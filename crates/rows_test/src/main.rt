@@ -4,6 +4,7 @@ use libc::STDOUT_FILENO;
 use parser::Answer;
 use rows::TopsAnswer;
 use table::ROW;
+use table::column;
 
 fn main() {
     let mut text = [0u8; 4096];
@@ -53,9 +54,9 @@ fn line(words: &[u32], root: usize) {
     }
     let i = root * ROW;
     number(b": kind ", wide(words[i]));
-    number(b", bytes ", wide(words[i + 3]));
-    number(b"..", wide(words[i + 4]));
-    number(b", rows ", wide(words[i + 1]));
+    number(b", bytes ", wide(words[i + column::LOW]));
+    number(b"..", wide(words[i + column::HIGH]));
+    number(b", rows ", wide(words[i + column::SIZE]));
     io::write_all(STDOUT_FILENO, b"\n");
 }
 

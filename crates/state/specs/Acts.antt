@@ -9,7 +9,7 @@ use lib.ListN.{length}
 use Rattle.reading.specs.Kind.{charᵏ}
 use Rattle.reading.specs.Grammar.{Row, Rows, State, Error, Request, Reply, ok, err, Rule, Parser, Act, closed, parse}
 use Rattle.reading.specs.Reading.{reads}
-use Rattle.reading.specs.Table.{error-width, request-width, error-words, request-words}
+use Rattle.reading.specs.Table.{error-width, request-width, error-words, request-words, max-text, max-scope}
 use Rattle.table.specs.Words.{pushed, error-record, request-record, Holds, HoldsRows}
 use Rattle.cursor.specs.Text.{here, cursor}
 use Rattle.cursor.specs.declared.Cursor.{Cursor}
@@ -113,11 +113,11 @@ charge st = cond (st .swallow) (st .errors) (st .errors + 1)
 
 -- the text is short enough; at most four rows for each byte behind, and k more; an error, a request and a scope number for each byte
 pub record Fit (k : ℕ) (s : List ℕ) (c : Cursor) (st : Counts) : Type 0 where
-  pub small : length s ≤ 65536
+  pub small : length s ≤ max-text
   pub within : c .at .0 ≤ length s
   pub few : c .count .0 ≤ 4 * c .at .0 + k
   pub charged : charge st ≤ c .at .0 + 1
-  pub scopes : st .scope ≤ 1000000 + c .at .0
+  pub scopes : st .scope ≤ max-scope + c .at .0
   pub requests : st .requests ≤ c .at .0
 
 -- Reports ------------------------------------------------------------------

@@ -8,6 +8,7 @@ use lib.ListN.{length}
 use Rattle.reading.specs.Grammar.{_or_, many0}
 use Rattle.reading.specs.Rules.{statement, error, eof, source-file}
 use Rattle.reading.specs.Reading.{start, written}
+use Rattle.reading.specs.Table.{max-text, max-scope}
 use Rattle.cursor.specs.Text.{cursor}
 use Rattle.cursor.specs.declared.Cursor.{Cursor}
 use Rattle.state.specs.declared.State.{State as Counts}
@@ -22,7 +23,7 @@ start-charge true n h = omega arith
 start-charge false n h = omega arith
 
 -- at the start of a text
-pub start-fit : {s : List ℕ} {st : Counts} → (length s ≤ 65536) × (st .scope ≤ 1000000) × (st .errors ≡ 0) × (st .requests ≡ 0) → Fit 0 s (cursor 0 0 false) st
+pub start-fit : {s : List ℕ} {st : Counts} → (length s ≤ max-text) × (st .scope ≤ max-scope) × (st .errors ≡ 0) × (st .requests ≡ 0) → Fit 0 s (cursor 0 0 false) st
 unfolding charge
 start-fit {s} {st} h =
     record {

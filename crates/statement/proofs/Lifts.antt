@@ -9,6 +9,7 @@ use lib.ListN.{length}
 use Rattle.reading.specs.Grammar.{Parser}
 use Rattle.reading.specs.Rules.{multiline-trivia}
 use Rattle.reading.proofs.Tests.{quiet}
+use Rattle.reading.specs.Table.{max-text}
 use Rattle.cursor.specs.Text.{cursor, Skips}
 use Rattle.cursor.specs.Agree.{Reads, Leafs}
 use Rattle.cursor.specs.declared.Cursor.{Cursor}
@@ -76,7 +77,7 @@ module _ {g : Parser} (u : Passes (quiet g)) {s : List ℕ} {c : Cursor} (h : c 
 -- Where a reader may be called ---------------------------------------------
 
 module _ {s : List ℕ} {c : Cursor} {st : Counts} (h : Fit 0 s c st) where
-  pub fit-lifts : (length s ≤ 65536) × (st .errors < 2 ^ 32)
+  pub fit-lifts : (length s ≤ max-text) × (st .errors < 2 ^ 32)
   fit-lifts = (h .small, omega (arith, fit-errors h))
 
   -- behind what a parser that owes nothing has read

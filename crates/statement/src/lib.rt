@@ -11,6 +11,7 @@ ghost use Prim.Native.Nat.{_≤_};
 ghost use lib.ListN.{length};
 ghost use Rattle.reading.specs.Grammar.{_or_, many0};
 ghost use Rattle.reading.specs.Rules.{statement, error, source-file};
+ghost use Rattle.reading.specs.Table.{max-text, max-scope};
 ghost use Rattle.cursor.specs.Text.{cursor};
 ghost use Rattle.state.specs.Acts.{Fit, Does, tables};
 
@@ -110,7 +111,7 @@ pub fn source_file(
     errors: &mut [u32],
     requests: &mut [u32],
 ) -> Done
-    requires { ⌜ (length (now s) ≤ 65536) × (st .scope ≤ 1000000) × (st .errors ≡ 0) × (st .requests ≡ 0) ⌝ }
+    requires { ⌜ (length (now s) ≤ max-text) × (st .scope ≤ max-scope) × (st .errors ≡ 0) × (st .requests ≡ 0) ⌝ }
     ensures { λ r. ⌜ Does source-file (now (s .entry)) (cursor 0 0 false) st left (tables (now (rows .entry)) (now (errors .entry)) (now (requests .entry))) (tables (now (rows .exit)) (now (errors .exit)) (now (requests .exit))) r ⌝ }
 {
     let r = tokens(s, st, left, rows, errors, requests);

@@ -7,10 +7,11 @@ use table::Pos;
 ghost use Prim.Native.Nat.{_^_, _≤_, _<_};
 ghost use lib.ListN.{length};
 ghost use Rattle.statement.specs.Shapes.{Lifted};
+ghost use Rattle.reading.specs.Table.{max-text};
 
 // The answer of a reader that was called with no open comment met, and one note of what it met.
 pub fn lifted(s: &[u8], st: State, f: Read, errors: &mut [u32]) -> Done
-    requires { ⌜ (length (now s) ≤ 65536) × (st .errors < 2 ^ 32) ⌝ }
+    requires { ⌜ (length (now s) ≤ max-text) × (st .errors < 2 ^ 32) ⌝ }
     ensures { λ r. ⌜ Lifted (length (now (s .entry))) f st (now (errors .entry)) (now (errors .exit)) r ⌝ }
 {
     match f {

@@ -1,4 +1,6 @@
-// Places, row numbers, and the lent tables. One place knows a record's width and the order of its columns: this one.
+// Places, row numbers, and the lent tables. All code has the widths of records and the columns of rows from here; the definition has them in
+// crate reading (specs/Table), and the contracts say that both agree. Outside stay the width of an item of trivia (crate trivia, which pushes
+// one as it would an error) and the numbers in the C header, which library/compare holds to these.
 ghost use mathlib.Core.Path.{_≡_};
 ghost use mathlib.Core.List.{_++_};
 ghost use Prim.Native.Nat.{ℕ, _+_, _*_, _-_, _^_, _≤_, _<_};
@@ -8,6 +10,7 @@ ghost use Rattle.reading.specs.Walk.{walk};
 ghost use Rattle.table.specs.Words.{pushed, replaced, row-record, error-record, request-record};
 ghost use Rattle.table.specs.Answers.{told};
 
+pub mod column;
 pub mod kind;
 
 // A byte's place in the text, the Rust's Pos.
@@ -16,6 +19,7 @@ pub struct Pos(pub usize);
 // A row's number, counted from 0.
 pub struct RowIndex(pub usize);
 
+// The words of a record.
 pub const ROW: usize = 6;
 
 pub const ERROR: usize = 3;
@@ -40,11 +44,11 @@ pub fn push_row(
     if n < rows.len() / ROW {
         let i = n * ROW;
         rows[i] = kind as u32;
-        rows[i + 1] = size as u32;
-        rows[i + 2] = tlow.0 as u32;
-        rows[i + 3] = low.0 as u32;
-        rows[i + 4] = high.0 as u32;
-        rows[i + 5] = detail as u32;
+        rows[i + column::SIZE] = size as u32;
+        rows[i + column::TLOW] = tlow.0 as u32;
+        rows[i + column::LOW] = low.0 as u32;
+        rows[i + column::HIGH] = high.0 as u32;
+        rows[i + column::DETAIL] = detail as u32;
     }
 }
 
@@ -55,7 +59,7 @@ pub fn place_row(rows: &mut [u32], n: RowIndex, tlow: Pos, low: Pos, high: Pos)
 {
     let n = n.0;
     if n < rows.len() / ROW {
-        let i = n * ROW + 2;
+        let i = n * ROW + column::TLOW;
         rows[i] = tlow.0 as u32;
         rows[i + 1] = low.0 as u32;
         rows[i + 2] = high.0 as u32;
@@ -115,7 +119,7 @@ pub fn walk(rows: &[u32], count: usize) -> Walked
     if rows.len() / ROW < count {
         return Walked::NoSubtree(count);
     }
-    let size = rows[(count - 1) * ROW + 1] as usize;
+    let size = rows[(count - 1) * ROW + column::SIZE] as usize;
     if size == 0 {
         return Walked::NoSubtree(count);
     }

@@ -10,7 +10,7 @@ ghost use Prim.Native.Nat.{_+_, _≤_, _<_};
 ghost use lib.ListN.{length, drop, getD};
 ghost use Rattle.reading.specs.Byte.{blank, digit, run, begins};
 ghost use Rattle.reading.specs.Rules.{trivia, multiline-trivia};
-ghost use Rattle.reading.specs.Table.{first-high};
+ghost use Rattle.reading.specs.Table.{max-text, first-high};
 ghost use Rattle.reading.specs.Items.{trivia-items};
 ghost use Rattle.cursor.specs.Text.{Skips};
 ghost use Rattle.trivia.specs.Answers.{told, listed, high-of, Lists};
@@ -291,7 +291,7 @@ struct Listing {
 
 // The items from the text's start on, in the table as far as it has room. An item is pushed as an error is: three words.
 fn list_items(text: &[u8], table: &mut [u32]) -> Listing
-    requires { ⌜ length (now text) ≤ 65536 ⌝ }
+    requires { ⌜ length (now text) ≤ max-text ⌝ }
     ensures { λ r. ⌜ Lists (now (text .entry)) (now (table .exit)) r ⌝ }
 {
     let mut i: usize = 0;

@@ -271,9 +271,9 @@ fn pair(input: &[u8], at: usize) -> u8 {
 }
 
 fn read(input: &[u8], at: usize, text: &[u8], start: Start, room: Room) -> Mark {
-    let mut rows = [FILL; 12288];
-    let mut errors = [FILL; 192];
-    let mut requests = [FILL; 128];
+    let mut rows = [FILL; 2048 * table::ROW];
+    let mut errors = [FILL; 64 * table::ERROR];
+    let mut requests = [FILL; 64 * table::REQUEST];
     within(
         input,
         at,
@@ -416,9 +416,9 @@ fn answered(
     requests: &[u32],
 ) -> Mark {
     let a = counts_of(input, at, x);
-    let b = words(input, a, rows, x.rows, 6);
-    let c = words(input, b, errors, x.errors, 3);
-    words(input, c, requests, x.requests, 2)
+    let b = words(input, a, rows, x.rows, table::ROW);
+    let c = words(input, b, errors, x.errors, table::ERROR);
+    words(input, c, requests, x.requests, table::REQUEST)
 }
 
 // The counts and the end state.
