@@ -155,7 +155,7 @@ fn print_rows(rows: &[u32], n: usize) {
             return;
         }
         io::print_decimal(STDOUT_FILENO, wide(rows[i]));
-        if i % table::ROW == table::ROW - 1 {
+        if i % table::ROW == table::column::DETAIL {
             io::write_all(STDOUT_FILENO, b"\n");
         } else {
             io::write_all(STDOUT_FILENO, b" ");

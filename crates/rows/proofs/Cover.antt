@@ -1,4 +1,4 @@
--- What the top rows are, with no turns counted: the first one's subtree starts at the table's first row, each next one where the one before it ends, and the last one ends the rows. And the rows of three texts.
+-- What the top rows are, with no turns counted: the first one's subtree starts at the table's first row, each next one where the one before it ends, and the last one ends the rows.
 use mathlib.Core.Path.{_≡_, refl, ap, sym, subst, _∙_}
 use mathlib.Core.Bool.{Bool, true, false, _||_, cond}
 use mathlib.Core.List.{List, [], _∷_, _++_, append-nil}
@@ -6,10 +6,7 @@ use Prim.Native.Nat.{ℕ, zero, suc, _-_, _≤_}
 use native.Mathlib.Omega.{arith}
 use borrow.Author.Tests.{eqb-true}
 use lib.Dec.{ltb, eqb}
-use lib.ListN.{length}
-use Rattle.reading.specs.Case.{r}
-use Rattle.reading.specs.Grammar.{Row}
-use Rattle.reading.specs.Table.{Answer, answered, refused, room, row-width, row-words}
+use Rattle.reading.specs.Table.{Answer, answered, refused, room, row-width}
 use Rattle.reading.specs.Walk.{Subtree, walk, size-at}
 use Rattle.rows.specs.Tops.{more-tops, tops-from, top-rows, Covers, none, subtree}
 use Rattle.rows.proofs.Turns.{Ahead, ahead-all, ahead-more, ahead-none, walk-less}
@@ -55,25 +52,3 @@ ahead-over t n m b rs acc (subtree e c) a = ahead-more t n _ _ (ahead-over t n m
 
 pub cover-tops : (t : List ℕ) (n : ℕ) (rs : List ℕ) → Covers t 0 rs n → top-rows t n ≡ answered rs
 cover-tops t n rs c = ahead-none t n 0 (rs ++ []) (ahead-over t n n 0 rs [] c (ahead-all t n)) refl ∙ ap answered (append-nil rs)
-
--- The rows of three texts ---------------------------------------------------
-
-abbrev tops-of : List Row → Answer (List ℕ)
-tops-of rs = top-rows (row-words rs) (length rs)
-
--- `lda #1` and LF: the instruction, and the Eof
-pub load-one : tops-of (r 46 1 0 0 3 30 ∷ r 41 1 3 4 5 35 ∷ r 49 1 5 5 5 2 ∷ r 50 1 5 5 6 0 ∷ r 39 3 5 5 6 0 ∷ r 34 4 5 5 6 0 ∷ r 31 6 3 4 6 2 ∷ r 14 8 0 0 6 0 ∷ r 8 1 6 7 7 0 ∷ [])
-    ≡ answered (7 ∷ 8 ∷ [])
-unfolding top-rows walk
-load-one = refl
-
--- `.byte trueish`: the data, the Error, the Eof
-pub true-ish : tops-of (r 52 1 0 0 5 1 ∷ r 49 1 6 6 6 2 ∷ r 50 1 6 6 10 0 ∷ r 39 3 6 6 10 0 ∷ r 34 4 5 6 10 0 ∷ r 6 6 0 0 10 0 ∷ r 9 1 10 10 13 0 ∷ r 8 1 13 13 13 0 ∷ [])
-    ≡ answered (5 ∷ 6 ∷ 7 ∷ [])
-unfolding top-rows walk
-true-ish = refl
-
--- `)`: row one is a row, though it is the Eof
-pub lone-eof : tops-of (r 8 1 0 0 1 0 ∷ []) ≡ answered (0 ∷ [])
-unfolding top-rows walk
-lone-eof = refl
