@@ -44,11 +44,10 @@ enum {
     VIREOPATCH_NO_ROOM_FOR_ERRORS    = 7,   /* gives the number of errors needed */
     VIREOPATCH_NO_ROOM_FOR_REQUESTS  = 8,   /* gives the number of requests needed */
     VIREOPATCH_VALUE_TOO_LARGE       = 9,   /* a number above VIREOPATCH_MAX_VALUE */
-    VIREOPATCH_NOT_A_NUMBER          = 10,  /* anything but `true`, `false` or one or more digits of the base */
+    VIREOPATCH_NOT_A_NUMBER          = 10,  /* anything but `true`, `false` or one or more digits of the base; any text, if the type is none */
     VIREOPATCH_NO_ITEM               = 11,  /* gives the first place that starts no item of trivia */
     VIREOPATCH_NO_ROOM_FOR_ITEMS     = 12,  /* gives the number of items needed */
-    VIREOPATCH_NO_SUBTREE            = 13,  /* gives the count */
-    VIREOPATCH_NO_SUCH_TYPE          = 100  /* the number type is none of VIREOPATCH_NUMBER_..; the library's own refusal */
+    VIREOPATCH_NO_SUBTREE            = 13   /* gives the count */
 };
 
 /* Limits of the arguments. */
@@ -309,9 +308,10 @@ uint32_t vireopatch_read(
  * text, text_len    the text of the row of kind 50: low to high of it, without the mark; any bytes, any length
  * value             set to the value; 0 for a refusal
  *
- * `true` is 1 and `false` is 0, in lower case only. Hexadecimal digits may be of either case. There is no sign.
+ * `true` is 1 and `false` is 0, in lower case only. Hexadecimal digits may be of either case. There is no sign. Where number_type is none of
+ * VIREOPATCH_NUMBER_.., no text is a number, `true` and `false` neither: 10.
  *
- * Returns 0, or the first of these that applies: 100, 10, 9. Each gives 0.
+ * Returns 0, or the first of these that applies: 10, 9. Each gives 0.
  */
 uint32_t vireopatch_value(
     uint32_t number_type,

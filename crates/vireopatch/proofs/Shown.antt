@@ -65,7 +65,7 @@ pub no-base : (n : ℕ) → (n ≡ 1 → ⊥) → (n ≡ 2 → ⊥) → (n ≡ 3
 unfolding base-numbered
 no-base n a b c = rw (ne-eqb n 1 a) (rw (ne-eqb n 2 b) (rw (ne-eqb n 3 c) refl))
 
-pub no-type-shown : (t : Typed) (n : ℕ) (s : List ℕ) → base-told t ≡ base-numbered n → t ≡ Unknown → seen-value 100 0 ≡ exported-value (value-in (base-numbered n) s)
+pub no-type-shown : (t : Typed) (n : ℕ) (s : List ℕ) → base-told t ≡ base-numbered n → t ≡ Unknown → seen-value 10 0 ≡ exported-value (value-in (base-numbered n) s)
 unfolding exported-value value-in
 no-type-shown t n s h e = ap (λ (o : Option Base). exported-value (value-in o s)) (sym (ap base-told e) ∙ h)
 

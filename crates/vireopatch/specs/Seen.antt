@@ -18,9 +18,9 @@ unfoldable pub use Rattle.parser.specs.Seen.{exported}
 unfoldable pub base-numbered : ℕ → Option Base
 base-numbered n = cond (eqb n 1) (some hexadecimal) (cond (eqb n 2) (some decimal) (cond (eqb n 3) (some binary) none))
 
--- 100, the library's own refusal: there is no such type
+-- of an unknown base there are no digits, and no words either: every text is refused with 10, giving 0
 unfoldable pub value-in : Option Base → List ℕ → Answer ℕ
-value-in none t = refused 100 0
+value-in none t = refused 10 0
 value-in (some x) t = number-value x t
 
 pub record SeenValue : Type 0 where

@@ -124,7 +124,7 @@ fn value_numbers_of(valued: Valued) -> ValueNumbers
     }
 }
 
-// The value of a number's text: refusals 10 and 9, and before them 100 for a type that is none.
+// The value of a number's text: refusals 10 and 9. Of a type that is none nothing is a number, so every text has refusal 10.
 #[no_mangle]
 pub extern "C" fn vireopatch_value(number_type: u32, text: &[u8], value: &mut u64) -> u32
     ensures { λ r. ⌜ seen-value r (now (value .exit)) ≡ exported-value (value-in (base-numbered «number_type») (now (text .entry))) ⌝ }
@@ -132,7 +132,7 @@ pub extern "C" fn vireopatch_value(number_type: u32, text: &[u8], value: &mut u6
     let typed = typed_of(number_type);
     let Typed::Known(ty) = typed else {
         *value = 0;
-        return 100;
+        return 10;
     };
     let valued = number::value(ty, text);
     let n = value_numbers_of(valued);

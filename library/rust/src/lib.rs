@@ -344,15 +344,18 @@ extern "C" {
 
 #[cfg(test)]
 mod tests {
-    /// The enum keeps this refusal out of the safe function.
+    /// Of a type that is none no text is a number. The enum keeps such a type out of the safe function, so the call is made without it.
     #[test]
     fn no_such_type() {
         for number_type in [0, 4, u32::MAX] {
-            let mut value = 7;
-            // SAFETY: as in `read`.
-            let code =
-                unsafe { super::vireopatch_value(number_type, b"1".as_ptr(), 1, &mut value) };
-            assert_eq!((code, value), (100, 0));
+            for text in [&b"1"[..], b"true", b"false", b"", b"x"] {
+                let mut value = 7;
+                // SAFETY: as in `read`.
+                let code = unsafe {
+                    super::vireopatch_value(number_type, text.as_ptr(), text.len(), &mut value)
+                };
+                assert_eq!((code, value), (10, 0));
+            }
         }
     }
 }
