@@ -311,7 +311,7 @@ pub fn of_class(masks: &[u8; 256], b: u8, class: u32) -> bool
     (masks[b as usize] >> class) % 2 == 1
 }
 
-// The byte is of the class, or is not of it.
+// The byte is of the class if `inside` is set, and is not of it if not.
 pub fn among(masks: &[u8; 256], b: u8, class: u32, inside: bool) -> bool
     requires { ⌜ (now masks ≡ table) × (class < 8) ⌝ }
     ensures { λ r. ⌜ r ≡ among class inside b ⌝ }

@@ -21,7 +21,7 @@ pub mod class;
 mod comment;
 pub mod kind;
 
-// The end of the run that starts here, of bytes of the class, or of bytes that are not of it.
+// The end of the run that starts here, of bytes of the class if `inside` is set, and of bytes that are not of it if not.
 pub fn run_end(s: &[u8], at: Pos, class: u32, inside: bool) -> Pos
     requires { ⌜ class < 8 ⌝ }
     ensures { λ r. ⌜ r .0 ≡ at .0 + run (among class inside) (drop (at .0) (now (s .entry))) ⌝ }
