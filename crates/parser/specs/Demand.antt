@@ -39,7 +39,8 @@ lent requests c = c .requests
 abbrev pub room-of : Kind → Call → ℕ
 room-of k c = room (width k) (lent k c)
 
--- the need: how many the written reading of this text from this starting state has
+-- the need: how many the written reading of this text from this starting state has. It is `needs` of crate reading, kind by kind, written out
+-- so that this page shows what is counted and that no limit occurs in it.
 abbrev pub need : Kind → Call → ℕ
 need rows c = length (rows-of (reading c))
 need errors c = length (state-of (reading c) .errors)

@@ -53,7 +53,7 @@ fn line(words: &[u32], root: usize) {
         return;
     }
     let i = root * ROW;
-    number(b": kind ", wide(words[i]));
+    number(b": kind ", wide(words[i + column::KIND]));
     number(b", bytes ", wide(words[i + column::LOW]));
     number(b"..", wide(words[i + column::HIGH]));
     number(b", rows ", wide(words[i + column::SIZE]));

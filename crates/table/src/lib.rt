@@ -1,6 +1,7 @@
-// Places, row numbers, and the lent tables. All code has the widths of records and the columns of rows from here; the definition has them in
-// crate reading (specs/Table), and the contracts say that both agree. Outside stay the width of an item of trivia (crate trivia, which pushes
-// one as it would an error) and the numbers in the C header, which library/compare holds to these.
+// Places, row numbers, and the lent tables. All code has the widths of records and the columns of rows from here. The definition has the widths
+// and the order of the words in crate reading (specs/Table, and the size's place in specs/Walk), and the contracts say that both agree.
+// Outside stay the width of an item of trivia (crate trivia, which pushes one as it would an error) and the numbers in the C header, which
+// library/compare holds to these.
 ghost use mathlib.Core.Path.{_≡_};
 ghost use mathlib.Core.List.{_++_};
 ghost use Prim.Native.Nat.{ℕ, _+_, _*_, _-_, _^_, _≤_, _<_};
@@ -59,10 +60,10 @@ pub fn place_row(rows: &mut [u32], n: RowIndex, tlow: Pos, low: Pos, high: Pos)
 {
     let n = n.0;
     if n < rows.len() / ROW {
-        let i = n * ROW + column::TLOW;
-        rows[i] = tlow.0 as u32;
-        rows[i + 1] = low.0 as u32;
-        rows[i + 2] = high.0 as u32;
+        let i = n * ROW;
+        rows[i + column::TLOW] = tlow.0 as u32;
+        rows[i + column::LOW] = low.0 as u32;
+        rows[i + column::HIGH] = high.0 as u32;
     }
 }
 

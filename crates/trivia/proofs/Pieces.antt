@@ -2,7 +2,6 @@
 use mathlib.Core.Path.{_≡_, refl, ap, ap₂, sym, _∙_}
 use mathlib.Core.Bool.{Bool, true, false, _||_, _&&_, not}
 use mathlib.Core.List.{List, [], _∷_}
-use mathlib.Core.Logic.{_⊎_, ⊎-elim, inl, inr}
 use mathlib.Core.Option.{Option, none, some}
 use Prim.Native.Nat.{ℕ, _+_, _≤_, _<_}
 use native.Mathlib.Omega.{arith}
@@ -156,6 +155,10 @@ one-begins c (b ∷ t) = go (eqb c b) refl
     go false e = ap (λ y. given y 1) (ne-eqb b c λ q. eqb-false c b e (sym q))
 
 -- by the first byte
+-- no byte above the space is a blank
+pub above-blank : (b : ℕ) → 32 < b → blank b ≡ false
+above-blank b h = ap₂ _||_ (ne-eqb b 32 λ q. omega (arith, q, h)) (ne-eqb b 9 λ q. omega (arith, q, h))
+
 module _ (s : List ℕ) (i : ℕ) (h : i < length s) where
   no-blank : blank (getD s i 0) ≡ false → run blank (drop i s) ≡ 0
   no-blank e = omega (arith, run-stop blank s i h e)
@@ -201,9 +204,9 @@ module _ (s : List ℕ) (i : ℕ) (h : i < length s) where
     starts-lone-return e = plain-none (ap blank q) (ap (eqb 47) q) (return-no s i (byte-at 13 true (ap (is 13) q)) (behind ∙ ap (λ y. given y 1) e))
 
   -- a byte that starts nothing
-  pub starts-other : ((getD s i 0 ≡ 9) ⊎ (getD s i 0 ≡ 32) → ⊥) → (getD s i 0 ≡ 10 → ⊥) → (getD s i 0 ≡ 13 → ⊥) → (getD s i 0 ≡ 47 → ⊥) → Starts s i No
+  pub starts-other : blank (getD s i 0) ≡ false → (getD s i 0 ≡ 10 → ⊥) → (getD s i 0 ≡ 13 → ⊥) → (getD s i 0 ≡ 47 → ⊥) → Starts s i No
   starts-other a b c d =
-      plain-none (ap₂ _||_ (ne-eqb (getD s i 0) 32 λ e. a (inr e)) (ne-eqb (getD s i 0) 9 λ e. a (inl e))) (ne-eqb 47 (getD s i 0) λ e. d (sym e))
+      plain-none a (ne-eqb 47 (getD s i 0) λ e. d (sym e))
       (feed-no s i (byte-at 13 false (ne-eqb (getD s i 0) 13 c)) (byte-at 10 false (ne-eqb (getD s i 0) 10 b)))
 
   -- a byte above the space that is no slash
@@ -211,7 +214,7 @@ module _ (s : List ℕ) (i : ℕ) (h : i < length s) where
   starts-plain e =
       let z = both (ltb 32 (getD s i 0)) (not (eqb (getD s i 0) 47)) e in
       let above : 32 < getD s i 0 = ltb-true 32 (getD s i 0) (z .0) in
-      starts-other (⊎-elim (λ q. omega (arith, q, above)) (λ q. omega (arith, q, above))) (λ q. omega (arith, q, above)) (λ q. omega (arith, q, above)) (eqb-false (getD s i 0) 47 (not-true (eqb (getD s i 0) 47) (z .1)))
+      starts-other (above-blank (getD s i 0) above) (λ q. omega (arith, q, above)) (λ q. omega (arith, q, above)) (eqb-false (getD s i 0) 47 (not-true (eqb (getD s i 0) 47) (z .1)))
 
   -- a slash
   module _ (q : getD s i 0 ≡ 47) where

@@ -1,4 +1,5 @@
-// Where comments end: block comments, which nest, and lines.
+// Where comments end: block comments, which nest, and lines. Places are `Pos` between functions; in a loop a place is a number, since an index
+// must be a local number.
 use crate::Close;
 use table::Pos;
 ghost use mathlib.Core.Path.{_≡_};

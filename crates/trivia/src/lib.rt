@@ -164,11 +164,11 @@ pub fn trivia_item(s: &[u8], at: Pos) -> Piece
         }
         return Piece::No;
     }
+    if class::blank(b) {
+        let end = blanks_end(s, Pos(low + 1));
+        return Piece::Item(kind::WHITESPACE, end);
+    }
     match b {
-        b'\t' | b' ' => {
-            let end = blanks_end(s, Pos(low + 1));
-            Piece::Item(kind::WHITESPACE, end)
-        }
         b'\n' => Piece::Item(kind::NEWLINE, Pos(low + 1)),
         b'\r' => {
             if byte_is(s, Pos(low + 1), b'\n') {

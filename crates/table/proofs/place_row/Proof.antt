@@ -11,11 +11,11 @@ use Rattle.table.proofs.place_row.Tie as tie
 mul-i : tie.Need-mul-i
 mul-i c = search needs
 
-add-i : tie.Need-add-i
-add-i c = search needs
-
 cast-rows : tie.Need-cast-rows
 cast-rows c = search needs
+
+add-rows : tie.Need-add-rows
+add-rows c = search needs
 
 mul-rows : tie.Need-mul-rows
 mul-rows c = search needs
@@ -26,8 +26,8 @@ slice-write-rows c = search needs
 cast-rows-2 : tie.Need-cast-rows-2
 cast-rows-2 c = search needs
 
-add-rows : tie.Need-add-rows
-add-rows c = search needs
+add-rows-2 : tie.Need-add-rows-2
+add-rows-2 c = search needs
 
 mul-rows-2 : tie.Need-mul-rows-2
 mul-rows-2 c = search needs
@@ -38,8 +38,8 @@ slice-write-rows-2 c = simp length-set (omega arith)
 cast-rows-3 : tie.Need-cast-rows-3
 cast-rows-3 c = search needs
 
-add-rows-2 : tie.Need-add-rows-2
-add-rows-2 c = search needs
+add-rows-3 : tie.Need-add-rows-3
+add-rows-3 c = search needs
 
 mul-rows-3 : tie.Need-mul-rows-3
 mul-rows-3 c = search needs
@@ -63,16 +63,16 @@ place-row-spec =
     tie.close
     (tie.spec
     mul-i
-    add-i
     cast-rows
+    add-rows
     mul-rows
     slice-write-rows
     cast-rows-2
-    add-rows
+    add-rows-2
     mul-rows-2
     slice-write-rows-2
     cast-rows-3
-    add-rows-2
+    add-rows-3
     mul-rows-3
     slice-write-rows-3
     same-length

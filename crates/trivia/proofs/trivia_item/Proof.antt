@@ -1,9 +1,7 @@
 -- A case for each way out: the first byte decides.
-use mathlib.Core.Logic.{⊎-elim}
-use mathlib.Core.Path.{ap, sym}
+use mathlib.Core.Path.{sym, _∙_}
 use native.Mathlib.Omega.{arith}
-use Rattle.reading.specs.Byte.{blank}
-use Rattle.trivia.proofs.Pieces.{starts-end, starts-blank, starts-feed, starts-return, starts-lone-return, starts-other}
+use Rattle.trivia.proofs.Pieces.{above-blank, starts-end, starts-blank, starts-feed, starts-return, starts-lone-return, starts-other}
 use borrow.Author.Needs.{needs}
 use Rattle.trivia.proofs.trivia_item.Statement.{statement}
 use Rattle.trivia.proofs.trivia_item.Tie as tie
@@ -21,7 +19,10 @@ returns-2 : tie.Need-returns-2
 returns-2 c = search needs
 
 returns-3 : tie.Need-returns-3
-returns-3 c = starts-other _ _ (c .before .before .before .if1 .left) (⊎-elim (λ e. omega (arith, e)) (λ e. omega (arith, e))) (λ e. omega (arith, e)) (λ e. omega (arith, e)) (c .if3 .left)
+returns-3 c = starts-other _ _ (c .before .before .before .if1 .left) (above-blank _ (c .before .if2 .taken)) (λ e. omega (arith, e)) (λ e. omega (arith, e)) (c .if3 .left)
+
+blank-requires : tie.Need-blank-requires
+blank-requires c κs = search needs
 
 add-t12 : tie.Need-add-t12
 add-t12 c = search needs
@@ -29,32 +30,34 @@ add-t12 c = search needs
 blanks-end-requires : tie.Need-blanks-end-requires
 blanks-end-requires c κs = search needs
 
-add-t14 : tie.Need-add-t14
-add-t14 c = search needs
+returns-4 : tie.Need-returns-4
+returns-4 c = starts-blank _ _ (c .before .before .before .before .before .if1 .left) (sym (c .before .before .blank .ensures) ∙ c .before .if4 .taken) _ (c .blanks-end .ensures)
 
-add-t17 : tie.Need-add-t17
-add-t17 c = search needs
+add-t15 : tie.Need-add-t15
+add-t15 c = search needs
+
+add-t18 : tie.Need-add-t18
+add-t18 c = search needs
 
 byte-is-requires : tie.Need-byte-is-requires
 byte-is-requires c κs = search needs
 
-add-t20 : tie.Need-add-t20
-add-t20 c = search needs
-
-returns-4 : tie.Need-returns-4
-returns-4 c = starts-blank _ _ (c .before .before .before .before .if1 .left) (⊎-elim (ap blank) (ap blank) (c .before .match .keys1)) _ (c .blanks-end .ensures)
+add-t21 : tie.Need-add-t21
+add-t21 c = search needs
 
 returns-5 : tie.Need-returns-5
-returns-5 c = starts-feed _ _ (c .before .before .before .if1 .left) (c .match .keys2)
+returns-5 c = starts-feed _ _ (c .before .before .before .before .before .if1 .left) (c .match .keys1)
 
 returns-6 : tie.Need-returns-6
-returns-6 c = starts-return _ _ (c .before .before .before .before .before .if1 .left) (c .before .before .match .keys3) (sym (c .before .byte-is .ensures)) (c .if4 .taken)
+returns-6 c = starts-return _ _ (c .before .before .before .before .before .before .before .if1 .left) (c .before .before .match .keys2) (sym (c .before .byte-is .ensures)) (c .if5 .taken)
 
 returns-7 : tie.Need-returns-7
-returns-7 c = starts-lone-return _ _ (c .before .before .before .before .before .if1 .left) (c .before .before .match .keys3) (sym (c .before .byte-is .ensures)) (c .if4 .left)
+returns-7 c = starts-lone-return _ _ (c .before .before .before .before .before .before .before .if1 .left) (c .before .before .match .keys2) (sym (c .before .byte-is .ensures)) (c .if5 .left)
 
 returns-8 : tie.Need-returns-8
-returns-8 c = starts-other _ _ (c .before .before .before .if1 .left) (c .match .rest .0 .0 .1) (c .match .rest .0 .1) (c .match .rest .1) (λ e. omega (arith, e))
+returns-8 c =
+    starts-other _ _ (c .before .before .before .before .before .if1 .left) (sym (c .before .before .blank .ensures) ∙ c .before .if4 .left) (c .match .rest .0 .1) (c .match .rest .1)
+    (λ e. omega (arith, e))
 
 pub trivia-item-spec : {M : Type 1} → statement M
 trivia-item-spec =
@@ -65,13 +68,14 @@ trivia-item-spec =
     comment-item-requires
     returns-2
     returns-3
+    blank-requires
     add-t12
     blanks-end-requires
-    add-t14
-    add-t17
-    byte-is-requires
-    add-t20
     returns-4
+    add-t15
+    add-t18
+    byte-is-requires
+    add-t21
     returns-5
     returns-6
     returns-7
