@@ -10,7 +10,7 @@ use Rattle.reading.specs.Byte.{within}
 use Rattle.reading.specs.Number.{Base, hexadecimal, decimal, binary, radix, is-digit, digit-value}
 use Rattle.number.specs.Steps.{digit-or-none}
 
-parts : (a b : Bool) → a && b ≡ true → (a ≡ true) × (b ≡ true)
+pub parts : (a b : Bool) → a && b ≡ true → (a ≡ true) × (b ≡ true)
 parts true b e = (refl, e)
 parts false b e = absurd (let z : _≡_ {A = ℕ} 0 1 = cc in let y : ⊥ = omega arith in y)
 
