@@ -11,12 +11,6 @@ ghost use lib.ListN.{length};
 // What every word of the tables is before a call, so that one left alone is seen.
 const FILL: u32 = 7;
 
-// A number of the line, and the place behind the byte that ends it.
-struct Number {
-    value: usize,
-    next: usize,
-}
-
 // The starting state and the level limit, and the place behind them.
 struct Start {
     scope: usize,
@@ -85,25 +79,11 @@ fn cases(input: &[u8], part: usize, text: &mut [u8], before: Counts) -> Counts {
     let mut counts = before;
     let mut at: usize = 0;
     while at < input.len() {
-        let next = behind(input, at, b'\n');
+        let next = fields::behind(input, at, b'\n');
         counts = line(input, at, next, part, text, counts);
         at = next;
     }
     counts
-}
-
-// The place behind the next such byte; where there is none, the end of the input.
-fn behind(input: &[u8], at: usize, b: u8) -> usize
-    ensures { λ r. ⌜ ((at < length (now (input .entry))) → (at < r)) ⌝ }
-{
-    let mut i = at;
-    while i < input.len() {
-        if input[i] == b {
-            return i + 1;
-        }
-        i += 1;
-    }
-    i
 }
 
 // A line that is empty, or a case.
@@ -120,7 +100,7 @@ fn line(
     if input[at] == b'\n' {
         return counts;
     }
-    let kind = field(input, at);
+    let kind = fields::field(input, at);
     let same = case(input, kind.next, next, text);
     if !same {
         differs(part, at);
@@ -143,33 +123,6 @@ fn counted(counts: Counts, kind: usize, same: bool) -> Counts
         different,
         ended: false,
     }
-}
-
-// A decimal number of at most nine digits, up to the next byte that is none.
-fn field(input: &[u8], at: usize) -> Number {
-    let mut value: usize = 0;
-    let mut i = at;
-    while i < input.len() {
-        let b = input[i];
-        if b < b'0' {
-            return Number { value, next: i + 1 };
-        }
-        if b'9' < b {
-            return Number { value, next: i + 1 };
-        }
-        if 100000000 <= value {
-            return Number { value, next: i + 1 };
-        }
-        value = value * 10 + index(digit(b));
-        i += 1;
-    }
-    Number { value, next: i }
-}
-
-fn index(b: u8) -> usize
-    ensures { λ r. ⌜ r < 256 ⌝ }
-{
-    b as usize
 }
 
 fn wide(x: u32) -> usize {
@@ -199,7 +152,7 @@ fn digit(b: u8) -> u8
 fn case(input: &[u8], at: usize, next: usize, text: &mut [u8]) -> bool {
     let start = start_of(input, at);
     let room = room_of(input, start.next);
-    let length = field(input, room.next);
+    let length = fields::field(input, room.next);
     let n = length.value;
     if text.len() < n {
         return false;
@@ -209,9 +162,9 @@ fn case(input: &[u8], at: usize, next: usize, text: &mut [u8]) -> bool {
 }
 
 fn start_of(input: &[u8], at: usize) -> Start {
-    let scope = field(input, at);
-    let flag = field(input, scope.next);
-    let level = field(input, flag.next);
+    let scope = fields::field(input, at);
+    let flag = fields::field(input, scope.next);
+    let level = fields::field(input, flag.next);
     Start {
         scope: scope.value,
         swallow: flag.value == 1,
@@ -221,9 +174,9 @@ fn start_of(input: &[u8], at: usize) -> Start {
 }
 
 fn room_of(input: &[u8], at: usize) -> Room {
-    let rows = field(input, at);
-    let errors = field(input, rows.next);
-    let requests = field(input, errors.next);
+    let rows = fields::field(input, at);
+    let errors = fields::field(input, rows.next);
+    let requests = fields::field(input, errors.next);
     Room {
         rows: rows.value,
         errors: errors.value,
@@ -234,7 +187,7 @@ fn room_of(input: &[u8], at: usize) -> Room {
 
 // Puts the text where it is to stand, and reads it.
 fn replay(input: &[u8], at: usize, start: Start, room: Room, text: &mut [u8]) -> Mark {
-    let expected = behind(input, at, b' ');
+    let expected = fields::behind(input, at, b' ');
     decode(input, at, expected, text);
     read(input, expected, text, start, room)
 }
@@ -464,7 +417,7 @@ fn word(input: &[u8], m: Mark, x: usize, in_record: bool) -> Mark {
 
 // The next number of the case against what was found.
 fn expect(input: &[u8], m: Mark, found: usize) -> Mark {
-    let n = field(input, m.next);
+    let n = fields::field(input, m.next);
     Mark {
         next: n.next,
         same: m.same & (n.value == found),

@@ -23,7 +23,7 @@ line-requires : tie.Need-line-requires Inv-loop μ-loop
 line-requires c κs = search needs
 
 loop-less : tie.Need-loop-less Inv-loop μ-loop
-loop-less c = omega (arith, c .before .before .before .before .behind .ensures (c .before .before .before .before .before .loop-test .taken))
+loop-less c = omega (arith, c .before .before .before .before .behind .ensures .0 (c .before .before .before .before .before .loop-test .taken))
 
 loop-again : tie.Need-loop-again Inv-loop μ-loop
 loop-again c = c .before .before .line .kept .1 .1 .1 .1 .0 ∙ c .before .before .before .before .before .before .loop .inv

@@ -1,0 +1,139 @@
+// The import loop: reads a pass table from standard input and prints the numbers of its top rows, first to last. Each is worked out where its
+// digits stand, in the table's own bytes; one that has no value is printed as its refusal, with its place.
+use libc::STDIN_FILENO;
+use libc::STDOUT_FILENO;
+use number::NumberType;
+use number::Valued;
+use parser::Answer;
+use rows::TopsAnswer;
+use table::ROW;
+use table::column;
+use table::kind;
+ghost use mathlib.Core.Path.{_≡_};
+ghost use Prim.Native.Nat.{_-_, _/_, _≤_, _<_};
+ghost use lib.ListN.{length, take, drop};
+ghost use Rattle.reading.specs.Number.{number-value};
+ghost use Rattle.reading.specs.Table.{row-width};
+ghost use Rattle.number.specs.Answers.{base-of, told};
+
+fn main() {
+    let mut text = [0u8; 65537];
+    let n = io::read_full(STDIN_FILENO, &mut text);
+    import(&text[..n]);
+}
+
+fn import(text: &[u8]) {
+    let mut words = [0u32; 16384 * ROW];
+    let mut errors = [0u32; 64 * table::ERROR];
+    let mut requests = [0u32; 64 * table::REQUEST];
+    let r = parser::read(text, 0, false, 64, &mut words, &mut errors, &mut requests);
+    let Answer::Read(x) = r else {
+        io::write_all(STDOUT_FILENO, b"no reading\n");
+        return;
+    };
+    top_rows(text, &words, x.rows);
+}
+
+fn top_rows(text: &[u8], words: &[u32], count: usize) {
+    let mut roots = [0usize; 4096];
+    let r = rows::tops(words, count, &mut roots);
+    let TopsAnswer::Count(n) = r else {
+        io::write_all(STDOUT_FILENO, b"too many top rows\n");
+        return;
+    };
+    lines(text, words, &roots, n);
+}
+
+// A line for each top row. Its subtree begins behind the one before.
+fn lines(text: &[u8], words: &[u32], roots: &[usize], n: usize) {
+    let mut i: usize = 0;
+    let mut first: usize = 0;
+    while i < roots.len() {
+        if n <= i {
+            return;
+        }
+        print(b"row ", i + 1);
+        io::write_all(STDOUT_FILENO, b":");
+        first = numbers(text, words, first, roots[i]);
+        io::write_all(STDOUT_FILENO, b"\n");
+        i += 1;
+    }
+}
+
+// The numbers of a subtree, from its first row to its root; the row behind it.
+fn numbers(text: &[u8], words: &[u32], first: usize, root: usize) -> usize {
+    let mut row = first;
+    while row < words.len() / ROW {
+        if root < row {
+            break;
+        }
+        if wide(words[row * ROW + column::KIND]) == kind::NUMBER {
+            number(text, words, row);
+        }
+        row += 1;
+    }
+    row
+}
+
+// The rows of a number are its type (49), its digits (50) and itself (39), one behind the other.
+fn number(text: &[u8], words: &[u32], row: usize)
+    requires { ⌜ row < length (now words) / row-width ⌝ }
+{
+    if row < 2 {
+        return;
+    }
+    let digits = (row - 1) * ROW;
+    let mark = (row - 2) * ROW;
+    let low = wide(words[digits + column::LOW]);
+    let high = wide(words[digits + column::HIGH]);
+    if high < low {
+        return;
+    }
+    if text.len() < high {
+        return;
+    }
+    let r = value_of(type_of(words[mark + column::DETAIL]), text, low, high);
+    answer(r, low, high);
+}
+
+fn type_of(detail: u32) -> NumberType {
+    match detail {
+        1 => NumberType::Hex,
+        3 => NumberType::Bin,
+        _ => NumberType::Dec,
+    }
+}
+
+// The value of the digits from low to high. They are not copied: the part that is lent is the text's.
+fn value_of(ty: NumberType, text: &[u8], low: usize, high: usize) -> Valued
+    requires { ⌜ (low ≤ high) × (high ≤ length (now text)) ⌝ }
+    ensures { λ r. ⌜ told r ≡ number-value (base-of ty) (take (high - low) (drop low (now (text .entry)))) ⌝ }
+{
+    number::value(ty, &text[low..high])
+}
+
+fn answer(r: Valued, low: usize, high: usize) {
+    match r {
+        Valued::Is(v) => {
+            io::write_all(STDOUT_FILENO, b" ");
+            io::print_decimal(STDOUT_FILENO, v);
+        }
+        Valued::NotANumber => refused(10, low, high),
+        Valued::TooLarge => refused(9, low, high),
+    }
+}
+
+fn refused(code: usize, low: usize, high: usize) {
+    print(b" refused ", code);
+    print(b" at ", low);
+    print(b"..", high);
+}
+
+fn print(label: &[u8], n: usize) {
+    io::write_all(STDOUT_FILENO, label);
+    io::print_decimal(STDOUT_FILENO, n as u64);
+}
+
+fn wide(x: u32) -> usize {
+    x as usize
+}
