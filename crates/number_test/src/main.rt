@@ -1,157 +1,253 @@
-// Runs number::value on texts picked by hand, and prints what it gives.
+// Replays values of number texts, each a part in the middle of other bytes, and compares. A line of the input is a case; tools/make-value-cases
+// makes them, and says what the fields are. Printed are the place of each case that differs, and for each name how many are equal and how many
+// differ.
+use libc::STDIN_FILENO;
 use libc::STDOUT_FILENO;
 use number::NumberType;
 use number::Valued;
+use parser::Answer;
+use std::num::wrapping_add_usize;
+use table::ERROR;
+use table::REQUEST;
+use table::ROW;
+use table::column;
+use table::kind;
+ghost use Prim.Native.Nat.{_+_, _≤_, _<_};
+ghost use lib.ListN.{length};
+
+// So many bytes stand before a text, and so many behind it.
+const MARGIN: usize = 32;
+
+// What is expected of a part, and the place of the text's runs. Where `row` is not 0, the part is the body of that row of the text's reading, which
+// has so many numbers.
+struct Expected {
+    row: usize,
+    numbers: usize,
+    number_type: usize,
+    low: usize,
+    high: usize,
+    refusal: usize,
+    value: usize,
+    next: usize,
+}
+
+struct Tally {
+    equal: usize,
+    different: usize,
+}
 
 fn main() {
-    words();
-    forms();
-    hex_digits();
-    dec_digits();
-    bin_digits();
-    dec_limits();
-    hex_limits();
-    bin_limits();
-    zeros();
-    nines();
+    let mut input = io::large_buffer();
+    let mut text = [0u8; 262144];
+    let n = io::read_full(STDIN_FILENO, &mut input);
+    lines(&input[..n], &mut text);
 }
 
-// Only the lower-case words have a value, in any base.
-fn words() {
-    dec(b"true");
-    dec(b"false");
-    hex(b"false");
-    bin(b"true");
-    dec(b"TRUE");
-    dec(b"truex");
-    dec(b"tru");
-}
-
-fn forms() {
-    dec(b"");
-    hex(b"");
-    bin(b"");
-    dec(b"+5");
-    dec(b"-5");
-    hex(b"-a");
-    dec(b"1_0");
-    dec(b" 1");
-}
-
-fn hex_digits() {
-    hex(b"0");
-    hex(b"09af");
-    hex(b"09AF");
-    hex(b"fF");
-    hex(b"1g");
-    hex(b"G1");
-    hex(b"1:");
-    hex(b"@");
-}
-
-fn dec_digits() {
-    dec(b"0");
-    dec(b"00042");
-    dec(b"1234567890");
-    dec(b"12a");
-    dec(b"a12");
-    dec(b"1/2");
-    io::write_all(STDOUT_FILENO, b"dec, byte 177 and 1");
-    answer(number::value(NumberType::Dec, b"\xb11"));
-}
-
-fn bin_digits() {
-    bin(b"0");
-    bin(b"0001");
-    bin(b"101010");
-    bin(b"102");
-    bin(b"2");
-    bin(b"1a");
-}
-
-// The limit, one more, and above 64 bits. A wrong digit behind a value that is too large counts first.
-fn dec_limits() {
-    dec(b"9223372036854775807");
-    dec(b"9223372036854775808");
-    dec(b"18446744073709551615");
-    dec(b"18446744073709551616");
-    dec(b"18446744073709551617");
-    dec(b"9223372036854775808x");
-    dec(b"00009223372036854775807");
-}
-
-fn hex_limits() {
-    hex(b"7fffffffffffffff");
-    hex(b"7FFFFFFFFFFFFFFF");
-    hex(b"8000000000000000");
-    hex(b"ffffffffffffffff");
-    hex(b"10000000000000000");
-    hex(b"8000000000000000g");
-    hex(b"00007fffffffffffffff");
-}
-
-fn bin_limits() {
-    bin(b"111111111111111111111111111111111111111111111111111111111111111");
-    bin(b"1000000000000000000000000000000000000000000000000000000000000000");
-    bin(b"10000000000000000000000000000000000000000000000000000000000000000");
-    bin(b"10000000000000000000000000000000000000000000000000000000000000002");
-    bin(b"0111111111111111111111111111111111111111111111111111111111111111");
-}
-
-fn zeros() {
-    let mut text = [48u8; 65536];
-    text[65535] = 49;
-    io::write_all(STDOUT_FILENO, b"hex, 65,535 zeros and 1");
-    answer(number::value(NumberType::Hex, &text));
-    io::write_all(STDOUT_FILENO, b"dec, 65,535 zeros and 1");
-    answer(number::value(NumberType::Dec, &text));
-    io::write_all(STDOUT_FILENO, b"bin, 65,535 zeros and 1");
-    answer(number::value(NumberType::Bin, &text));
-}
-
-fn nines() {
-    let mut text = [57u8; 65536];
-    io::write_all(STDOUT_FILENO, b"dec, 65,535 nines");
-    answer(number::value(NumberType::Dec, &text[..65535]));
-    text[65535] = 120;
-    io::write_all(STDOUT_FILENO, b"dec, 65,535 nines and x");
-    answer(number::value(NumberType::Dec, &text));
-}
-
-fn hex(text: &[u8]) {
-    label(b"hex", text);
-    answer(number::value(NumberType::Hex, text));
-}
-
-fn dec(text: &[u8]) {
-    label(b"dec", text);
-    answer(number::value(NumberType::Dec, text));
-}
-
-fn bin(text: &[u8]) {
-    label(b"bin", text);
-    answer(number::value(NumberType::Bin, text));
-}
-
-fn label(base: &[u8], text: &[u8]) {
-    io::write_all(STDOUT_FILENO, base);
-    io::write_all(STDOUT_FILENO, b" \"");
-    io::write_all(STDOUT_FILENO, text);
-    io::write_all(STDOUT_FILENO, b"\"");
-}
-
-fn answer(r: Valued) {
-    match r {
-        Valued::Is(v) => {
-            io::write_all(STDOUT_FILENO, b": value ");
-            io::print_decimal(STDOUT_FILENO, v);
-            io::write_all(STDOUT_FILENO, b"\n");
-        }
-        Valued::NotANumber => {
-            io::write_all(STDOUT_FILENO, b": refused 10 0\n");
-        }
-        Valued::TooLarge => {
-            io::write_all(STDOUT_FILENO, b": refused 9 0\n");
-        }
+fn lines(input: &[u8], text: &mut [u8]) {
+    let mut tally = none();
+    let mut at: usize = 0;
+    while at < input.len() {
+        let next = fields::behind(input, at, b'\n');
+        tally = line(input, at, next, text, tally);
+        at = next;
     }
+}
+
+fn none() -> Tally {
+    Tally {
+        equal: 0,
+        different: 0,
+    }
+}
+
+// A case; or the name of the cases before it, behind a `#`.
+fn line(input: &[u8], at: usize, next: usize, text: &mut [u8], tally: Tally) -> Tally
+    requires { ⌜ (at < next) × (next ≤ length (now input)) ⌝ }
+{
+    if input[at] == b'#' {
+        print(b"equal ", tally.equal);
+        print(b", different ", tally.different);
+        io::write_all(STDOUT_FILENO, &input[at + 1..next]);
+        return none();
+    }
+    let same = case(input, at, next, text);
+    if !same {
+        print(b"different: byte ", at);
+        io::write_all(STDOUT_FILENO, b"\n");
+    }
+    counted(tally, same)
+}
+
+fn counted(tally: Tally, same: bool) -> Tally {
+    let mut t = tally;
+    if same {
+        t.equal = wrapping_add_usize(t.equal, 1);
+    } else {
+        t.different = wrapping_add_usize(t.different, 1);
+    }
+    t
+}
+
+// Between bytes that are digits in every base, and between bytes that are digits in none.
+fn case(input: &[u8], at: usize, next: usize, text: &mut [u8]) -> bool
+    requires { ⌜ next ≤ length (now input) ⌝ }
+{
+    let c = expected_of(input, at);
+    let a = between(input, c, next, b'1', text);
+    let b = between(input, c, next, b'x', text);
+    a & b
+}
+
+fn expected_of(input: &[u8], at: usize) -> Expected {
+    let row = fields::field(input, at);
+    let numbers = fields::field(input, row.next);
+    let number_type = fields::field(input, numbers.next);
+    let low = fields::field(input, number_type.next);
+    let high = fields::field(input, low.next);
+    let refusal = fields::field(input, high.next);
+    let value = fields::field(input, refusal.next);
+    Expected {
+        row: row.value,
+        numbers: numbers.value,
+        number_type: number_type.value,
+        low: low.value,
+        high: high.value,
+        refusal: refusal.value,
+        value: value.value,
+        next: value.next,
+    }
+}
+
+// Lays the text between such bytes, and compares there.
+fn between(input: &[u8], c: Expected, next: usize, around: u8, text: &mut [u8]) -> bool
+    requires { ⌜ next ≤ length (now input) ⌝ }
+{
+    let low = put(text, 0, MARGIN, around);
+    let high = runs(input, c.next, next, text, low);
+    let end = put(text, high, MARGIN, around);
+    if end == text.len() {
+        return false;
+    }
+    compare(c, &text[low..high])
+}
+
+// Puts the runs of a line into the text from a place on; the place behind them. A run is how often a byte comes, and the byte.
+fn runs(input: &[u8], from: usize, next: usize, text: &mut [u8], low: usize) -> usize
+    requires { ⌜ (next ≤ length (now input)) × (low ≤ length (now text)) ⌝ }
+    ensures { λ r. ⌜ (low ≤ r) × (r ≤ length (now (text .entry))) ⌝ }
+{
+    let mut at = from;
+    let mut end = low;
+    while at < next {
+        let times = fields::field(input, at);
+        let byte = fields::field(input, times.next);
+        end = put(text, end, times.value, (byte.value % 256) as u8);
+        at = byte.next;
+    }
+    end
+}
+
+// Puts so many of a byte into the text from a place on, as far as there is room; the place behind them.
+fn put(text: &mut [u8], at: usize, times: usize, byte: u8) -> usize
+    requires { ⌜ at ≤ length (now text) ⌝ }
+    ensures { λ r. ⌜ (at ≤ r) × (r ≤ length (now (text .entry))) ⌝ }
+{
+    let mut i = at;
+    let mut left = times;
+    while i < text.len() {
+        if left == 0 {
+            break;
+        }
+        text[i] = byte;
+        left -= 1;
+        i += 1;
+    }
+    i
+}
+
+fn compare(c: Expected, text: &[u8]) -> bool {
+    if c.row == 0 {
+        return valued(c, text);
+    }
+    read(c, text) & valued(c, text)
+}
+
+// The value of the part against what is expected.
+fn valued(c: Expected, text: &[u8]) -> bool {
+    let low = c.low;
+    let high = c.high;
+    if high < low {
+        return false;
+    }
+    if text.len() < high {
+        return false;
+    }
+    let r = number::value(type_of(c.number_type), &text[low..high]);
+    match r {
+        Valued::Is(v) => (c.refusal == 0) & (c.value as u64 == v),
+        Valued::NotANumber => (c.refusal == 10) & (c.value == 0),
+        Valued::TooLarge => (c.refusal == 9) & (c.value == 0),
+    }
+}
+
+fn type_of(detail: usize) -> NumberType {
+    match detail {
+        1 => NumberType::Hex,
+        2 => NumberType::Dec,
+        _ => NumberType::Bin,
+    }
+}
+
+// Whether the text's reading has so many numbers, and the row.
+fn read(c: Expected, text: &[u8]) -> bool {
+    let mut rows = [0u32; 256 * ROW];
+    let mut errors = [0u32; 64 * ERROR];
+    let mut requests = [0u32; 64 * REQUEST];
+    let r = parser::read(text, 0, false, 64, &mut rows, &mut errors, &mut requests);
+    let Answer::Read(x) = r else {
+        return false;
+    };
+    (numbers(&rows, x.rows) == c.numbers) & has(&rows, c)
+}
+
+fn numbers(rows: &[u32], count: usize) -> usize {
+    let mut n: usize = 0;
+    let mut row: usize = 0;
+    while row < rows.len() / ROW {
+        if count <= row {
+            break;
+        }
+        if wide(rows[row * ROW + column::KIND]) == kind::NUMBER_TEXT {
+            n = wrapping_add_usize(n, 1);
+        }
+        row += 1;
+    }
+    n
+}
+
+// The row has the part's places, and the one before it the number's type.
+fn has(rows: &[u32], c: Expected) -> bool {
+    let row = c.row;
+    if row == 0 {
+        return false;
+    }
+    if rows.len() / ROW <= row {
+        return false;
+    }
+    let i = row * ROW;
+    let mark = (row - 1) * ROW;
+    (wide(rows[mark + column::KIND]) == kind::NUMBER_TYPE)
+        & (wide(rows[mark + column::DETAIL]) == c.number_type)
+        & (wide(rows[i + column::KIND]) == kind::NUMBER_TEXT)
+        & (wide(rows[i + column::LOW]) == c.low)
+        & (wide(rows[i + column::HIGH]) == c.high)
+}
+
+fn print(label: &[u8], n: usize) {
+    io::write_all(STDOUT_FILENO, label);
+    io::print_decimal(STDOUT_FILENO, n as u64);
+}
+
+fn wide(x: u32) -> usize {
+    x as usize
 }
