@@ -41,7 +41,7 @@ fn same(text: &[u8], word: &[u8]) -> bool
         return false;
     }
     let mut i = 0;
-    while i < text.len() {
+    while i < word.len() {
         if text[i] != word[i] {
             return false;
         }

@@ -6,10 +6,10 @@ use Rattle.import_loop.proofs.lines.Statement.{statement}
 use Rattle.import_loop.proofs.lines.Tie as tie
 
 abbrev Inv-loop : tie.InvT-loop
-Inv-loop text words roots n i₀ first₀ t7 t8 i first = i ≤ length roots
+Inv-loop text words roots n i₀ first₀ t7 t8 t9 i first = i ≤ length roots
 
 abbrev μ-loop : tie.MeasureT-loop
-μ-loop text words roots n i₀ first₀ t7 t8 i first = length roots - i
+μ-loop text words roots n i₀ first₀ t7 t8 t9 i first = length roots - i
 
 loop-holds : tie.Need-loop-holds Inv-loop μ-loop
 loop-holds c = omega arith
@@ -26,6 +26,12 @@ add-print c = omega arith
 print-requires : tie.Need-print-requires Inv-loop μ-loop
 print-requires c κs = search needs
 
+slice-aggregate-write-all : tie.Need-slice-aggregate-write-all Inv-loop μ-loop
+slice-aggregate-write-all c = search needs
+
+write-all-requires : tie.Need-write-all-requires Inv-loop μ-loop
+write-all-requires c κs = search needs
+
 mul-numbers : tie.Need-mul-numbers Inv-loop μ-loop
 mul-numbers c = search needs
 
@@ -35,11 +41,11 @@ shared-slice-read-numbers c = search needs
 numbers-requires : tie.Need-numbers-requires Inv-loop μ-loop
 numbers-requires c κs = search needs
 
-slice-aggregate-write-all : tie.Need-slice-aggregate-write-all Inv-loop μ-loop
-slice-aggregate-write-all c = search needs
+slice-aggregate-write-all-2 : tie.Need-slice-aggregate-write-all-2 Inv-loop μ-loop
+slice-aggregate-write-all-2 c = search needs
 
-write-all-requires : tie.Need-write-all-requires Inv-loop μ-loop
-write-all-requires c κs = search needs
+write-all-requires-2 : tie.Need-write-all-requires-2 Inv-loop μ-loop
+write-all-requires-2 c κs = search needs
 
 add-i : tie.Need-add-i Inv-loop μ-loop
 add-i c = omega arith
@@ -64,11 +70,13 @@ lines-spec =
     slice-aggregate-print
     add-print
     print-requires
+    slice-aggregate-write-all
+    write-all-requires
     mul-numbers
     shared-slice-read-numbers
     numbers-requires
-    slice-aggregate-write-all
-    write-all-requires
+    slice-aggregate-write-all-2
+    write-all-requires-2
     add-i
     loop-less
     loop-again
