@@ -44,13 +44,13 @@ zeros-front {n} {p} {q} z = sym (take-append-drop n (bytes-of p)) ∙ ap₂ _++_
     front : take n (bytes-of p) ≡ replicate n 48
     front =
         ext-getD 0 (take n (bytes-of p)) (replicate n 48) (long ∙ sym (length-replicate n 48)) λ k h.
-            let l : k < n = omega (arith, long, h) in
-            getD-take n (bytes-of p) k 0 l ∙ each p k (omega (arith, z .many, l)) ∙ z .zeros k l ∙ sym (getD-replicate n k 48 0 l)
+        let l : k < n = omega (arith, long, h) in
+        getD-take n (bytes-of p) k 0 l ∙ each p k (omega (arith, z .many, l)) ∙ z .zeros k l ∙ sym (getD-replicate n k 48 0 l)
 
     back : drop n (bytes-of p) ≡ bytes-of q
     back =
         is-part (drop n (bytes-of p)) q (omega (arith, length-drop n (bytes-of p), many p, z .many)) λ k h.
-            getD-drop n (bytes-of p) k 0 ∙ each p (n + k) (omega (arith, z .many, h)) ∙ z .behind k h
+        getD-drop n (bytes-of p) k 0 ∙ each p (n + k) (omega (arith, z .many, h)) ∙ z .behind k h
 
 all-in : (x : Base) (t : List ℕ) → ((k : ℕ) → k < length t → is-digit x (getD t k 0) ≡ true) → all-digits x t ≡ true
 all-in x [] f = refl
