@@ -306,8 +306,11 @@ uint32_t vireopatch_read(
  * The value of a number's text.
  *
  * number_type       VIREOPATCH_NUMBER_..: the detail of the row of kind 49
- * text, text_len    the text of the row of kind 50: low to high of it, without the mark; any bytes, any length
+ * text, text_len    the text of the row of kind 50, where it stands in the text that was read: `text + low, high - low` of that row, without the
+ *                   mark. Any bytes, any length
  * value             set to the value; 0 for a refusal
+ *
+ * The outcome depends on number_type and these bytes alone, and zeros before one or more digits change nothing: 65,535 zeros and a 1 are 1.
  *
  * `true` is 1 and `false` is 0, in lower case only. Hexadecimal digits may be of either case. There is no sign. Where number_type is none of
  * VIREOPATCH_NUMBER_.., no text is a number, `true` and `false` neither: 10.

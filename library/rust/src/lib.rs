@@ -18,11 +18,12 @@
 #![no_std]
 
 pub mod code;
+pub mod column;
 pub mod detail;
 pub mod item;
 pub mod kind;
 
-/// Words of a row: kind, size, tlow, low, high, detail. Rows stand children first, then the parent; size counts the rows of the subtree.
+/// Words of a row: kind, size, tlow, low, high, detail ([`column`]). Rows stand children first, then the parent; size counts the rows of the subtree.
 /// Trivia is tlow to low, the body low to high; places are byte offsets.
 pub const ROW: usize = 6;
 
@@ -244,7 +245,8 @@ pub fn read(
     }
 }
 
-/// The value of a number's text: the body of a row of kind [`kind::NUMBER_TEXT`]. Refusals 10, then 9.
+/// The value of a number's text: the body of a row of kind [`kind::NUMBER_TEXT`], lent as it stands in the text that was read,
+/// `&text[low..high]`. The outcome depends on these bytes and the type alone, at any length. Refusals 10, then 9.
 pub fn value(number_type: NumberType, text: &[u8]) -> Result<u64, Refusal> {
     let mut value = 0;
     // SAFETY: as in `read`.

@@ -1,0 +1,49 @@
+//! What the examples share: the text that they are called with, and its reading as a first text, in tables that are always enough.
+
+use std::io::Read;
+use std::process::exit;
+use vireopatch::{enough, read, Reading, State, MAX_LEVEL, MAX_TEXT};
+
+fn text() -> std::io::Result<Vec<u8>> {
+    match std::env::args_os().nth(1) {
+        Some(name) => std::fs::read(name),
+        None => {
+            let mut text = vec![];
+            std::io::stdin().read_to_end(&mut text)?;
+            Ok(text)
+        }
+    }
+}
+
+/// The text of the file that is named, or of standard input; the tables of rows, errors and requests; the counts and the end state. Without
+/// a text the program ends with status 2; where the text is refused it prints the refusal and ends with status 1.
+pub fn read_text(example: &str) -> (Vec<u8>, [Vec<u32>; 3], Reading) {
+    let text = text().unwrap_or_else(|e| {
+        eprintln!("{example}: {e}");
+        exit(2)
+    });
+    // A longer text is refused before anything is written.
+    let n = if text.len() <= MAX_TEXT {
+        text.len()
+    } else {
+        0
+    };
+    let mut rows = vec![0; enough::row_words(n)];
+    let mut errors = vec![0; enough::error_words(n)];
+    let mut requests = vec![0; enough::request_words(n)];
+    match read(
+        &text,
+        State::default(),
+        MAX_LEVEL,
+        &mut rows,
+        &mut errors,
+        &mut requests,
+    ) {
+        Ok(reading) => (text, [rows, errors, requests], reading),
+        Err(refusal) => {
+            let (number, given) = refusal.numbers();
+            println!("refusal number\n{number} {given}");
+            exit(1)
+        }
+    }
+}
