@@ -6,15 +6,18 @@ use number::NumberType;
 use number::Valued;
 use parser::Answer;
 use rows::TopsAnswer;
+use table::ERROR;
+use table::REQUEST;
 use table::ROW;
 use table::column;
 use table::kind;
 ghost use mathlib.Core.Path.{_≡_};
-ghost use Prim.Native.Nat.{_-_, _/_, _≤_, _<_};
-ghost use lib.ListN.{length, take, drop};
+ghost use Prim.Native.Nat.{_/_, _≤_, _<_};
+ghost use lib.ListN.{length};
 ghost use Rattle.reading.specs.Number.{number-value};
 ghost use Rattle.reading.specs.Table.{row-width};
 ghost use Rattle.number.specs.Answers.{base-of, told};
+ghost use Rattle.number.specs.Part.{part-of};
 
 fn main() {
     let mut text = [0u8; 65537];
@@ -24,8 +27,8 @@ fn main() {
 
 fn import(text: &[u8]) {
     let mut words = [0u32; 16384 * ROW];
-    let mut errors = [0u32; 64 * table::ERROR];
-    let mut requests = [0u32; 64 * table::REQUEST];
+    let mut errors = [0u32; 64 * ERROR];
+    let mut requests = [0u32; 64 * REQUEST];
     let r = parser::read(text, 0, false, 64, &mut words, &mut errors, &mut requests);
     let Answer::Read(x) = r else {
         io::write_all(STDOUT_FILENO, b"no reading\n");
@@ -75,7 +78,8 @@ fn numbers(text: &[u8], words: &[u32], first: usize, root: usize) -> usize {
     row
 }
 
-// The rows of a number are its type (49), its digits (50) and itself (39), one behind the other.
+// The rows of a number are its type (49), its digits (50) and itself (39), one behind the other. A reading has them, with places in its text:
+// that is tested here, and not proved.
 fn number(text: &[u8], words: &[u32], row: usize)
     requires { ⌜ row < length (now words) / row-width ⌝ }
 {
@@ -107,7 +111,7 @@ fn type_of(detail: u32) -> NumberType {
 // The value of the digits from low to high. They are not copied: the part that is lent is the text's.
 fn value_of(ty: NumberType, text: &[u8], low: usize, high: usize) -> Valued
     requires { ⌜ (low ≤ high) × (high ≤ length (now text)) ⌝ }
-    ensures { λ r. ⌜ told r ≡ number-value (base-of ty) (take (high - low) (drop low (now (text .entry)))) ⌝ }
+    ensures { λ r. ⌜ told r ≡ number-value (base-of ty) (part-of low high (now (text .entry))) ⌝ }
 {
     number::value(ty, &text[low..high])
 }

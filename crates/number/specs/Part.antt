@@ -10,7 +10,11 @@ use native.Mathlib.Omega.{arith}
 use lib.ListN.{length, getD, take, drop}
 use Rattle.reading.specs.Number.{Base, is-digit}
 
--- A part of a text, from low to high ------------------------------------------
+-- A part of a text ------------------------------------------------------------
+
+-- the bytes from low to high
+abbrev pub part-of : ℕ → ℕ → List ℕ → List ℕ
+part-of low high t = take (high - low) (drop low t)
 
 pub record Part : Type 0 where
   pub text : List ℕ
@@ -28,7 +32,7 @@ byte p k = getD (p .text) (p .low + k) 0
 
 -- all of them: what a call is lent
 abbrev pub bytes-of : Part → List ℕ
-bytes-of p = take (size p) (drop (p .low) (p .text))
+bytes-of p = part-of (p .low) (p .high) (p .text)
 
 -- Two parts -------------------------------------------------------------------
 

@@ -21,7 +21,8 @@ pub enum Valued {
 // The largest value that is answered.
 const LIMIT: u64 = 9223372036854775807;
 
-// The words first, as the Rust has it.
+// The text is a part of the one that was read, `&text[low..high]` of a row of kind 50; it may be any bytes, and of any length. The words first, as
+// the Rust has it.
 pub fn value(ty: NumberType, text: &[u8]) -> Valued
     ensures { λ r. ⌜ told r ≡ number-value (base-of ty) (now (text .entry)) ⌝ }
 {
