@@ -3,6 +3,7 @@
 use libc::STDIN_FILENO;
 use libc::STDOUT_FILENO;
 use number::NumberType;
+use number::Typed;
 use number::Valued;
 use parser::Answer;
 use rows::TopsAnswer;
@@ -88,6 +89,9 @@ fn number(text: &[u8], words: &[u32], row: usize)
     }
     let digits = (row - 1) * ROW;
     let mark = (row - 2) * ROW;
+    let Typed::Known(ty) = number::typed_of(words[mark + column::DETAIL]) else {
+        return;
+    };
     let low = wide(words[digits + column::LOW]);
     let high = wide(words[digits + column::HIGH]);
     if high < low {
@@ -96,16 +100,7 @@ fn number(text: &[u8], words: &[u32], row: usize)
     if text.len() < high {
         return;
     }
-    let r = value_of(type_of(words[mark + column::DETAIL]), text, low, high);
-    answer(r, low, high);
-}
-
-fn type_of(detail: u32) -> NumberType {
-    match detail {
-        1 => NumberType::Hex,
-        3 => NumberType::Bin,
-        _ => NumberType::Dec,
-    }
+    answer(value_of(ty, text, low, high), low, high);
 }
 
 // The value of the digits from low to high. They are not copied: the part that is lent is the text's.

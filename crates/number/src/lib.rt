@@ -2,7 +2,7 @@
 ghost use mathlib.Core.Path.{_≡_};
 ghost use Prim.Native.Nat.{_+_, _*_, _<_};
 ghost use Rattle.reading.specs.Number.{radix, same as same-bytes, digits-value, number-value};
-ghost use Rattle.number.specs.Answers.{base-of, told};
+ghost use Rattle.number.specs.Answers.{base-of, base-told, base-numbered, told};
 ghost use Rattle.number.specs.Steps.{digit-or-none, capped, decided};
 
 // The base of a number, by the mark before it.
@@ -10,6 +10,11 @@ pub enum NumberType {
     Hex,
     Dec,
     Bin,
+}
+
+pub enum Typed {
+    Known(NumberType),
+    Unknown,
 }
 
 pub enum Valued {
@@ -20,6 +25,18 @@ pub enum Valued {
 
 // The largest value that is answered.
 const LIMIT: u64 = 9223372036854775807;
+
+// A number type by its number: the detail of a row of kind 49.
+pub fn typed_of(number: u32) -> Typed
+    ensures { λ r. ⌜ base-told r ≡ base-numbered number ⌝ }
+{
+    match number {
+        1 => Typed::Known(NumberType::Hex),
+        2 => Typed::Known(NumberType::Dec),
+        3 => Typed::Known(NumberType::Bin),
+        _ => Typed::Unknown,
+    }
+}
 
 // The text is a part of the one that was read, `&text[low..high]` of a row of kind 50; it may be any bytes, and of any length. The words first, as
 // the Rust has it.

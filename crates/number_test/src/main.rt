@@ -3,7 +3,7 @@
 // differ.
 use libc::STDIN_FILENO;
 use libc::STDOUT_FILENO;
-use number::NumberType;
+use number::Typed;
 use number::Valued;
 use parser::Answer;
 use std::num::wrapping_add_usize;
@@ -182,19 +182,14 @@ fn valued(c: Expected, text: &[u8]) -> bool {
     if text.len() < high {
         return false;
     }
-    let r = number::value(type_of(c.number_type), &text[low..high]);
+    let Typed::Known(ty) = number::typed_of((c.number_type % 256) as u32) else {
+        return false;
+    };
+    let r = number::value(ty, &text[low..high]);
     match r {
         Valued::Is(v) => (c.refusal == 0) & (c.value as u64 == v),
         Valued::NotANumber => (c.refusal == 10) & (c.value == 0),
         Valued::TooLarge => (c.refusal == 9) & (c.value == 0),
-    }
-}
-
-fn type_of(detail: usize) -> NumberType {
-    match detail {
-        1 => NumberType::Hex,
-        2 => NumberType::Dec,
-        _ => NumberType::Bin,
     }
 }
 

@@ -1,10 +1,9 @@
 -- What a call's answer is in numbers is what its definition exports: one law for each call, case by case.
 use mathlib.Core.Bool.{Bool}
 use mathlib.Core.List.{List}
-use mathlib.Core.Option.{Option, none}
+use mathlib.Core.Option.{Option}
 use mathlib.Core.Path.{_≡_, refl, ap, sym, _∙_}
 use Prim.Native.Nat.{ℕ}
-use borrow.Author.Tests.{ne-eqb}
 use Rattle.reading.specs.Table.{Answer as Answered}
 use Rattle.reading.specs.Outcome.{Call, Outcome, outcome}
 use Rattle.reading.specs.Items.{Listed}
@@ -13,8 +12,10 @@ use Rattle.reading.specs.Walk.{Subtree}
 use Rattle.parser.specs.Answers.{told, end-scope, end-swallow, Meets}
 use Rattle.parser.specs.declared.Answer.{Answer}
 use Rattle.parser.specs.declared.Answer.the-variants.{Read, TooLong, HighByte, ScopeTooLarge, LevelTooLarge, TooDeep, NoRoomForRows, NoRoomForErrors, NoRoomForRequests}
-use Rattle.number.specs.Answers.{base-of, told as value-told}
+use Rattle.number.specs.Answers.{base-of, base-told, told as value-told}
 use Rattle.number.specs.declared.NumberType.{NumberType}
+use Rattle.number.specs.declared.Typed.{Typed}
+use Rattle.number.specs.declared.Typed.the-variants.{Known, Unknown}
 use Rattle.number.specs.declared.Valued.{Valued}
 use Rattle.number.specs.declared.Valued.the-variants.{Is, NotANumber, TooLarge}
 use Rattle.trivia.specs.Answers.{listed, told as items-told}
@@ -24,13 +25,11 @@ use Rattle.table.specs.Answers.{told as walk-told}
 use Rattle.table.specs.declared.Walked.{Walked}
 use Rattle.table.specs.declared.Walked.the-variants.{Subtree as subtree, NoSubtree}
 use Rattle.vireopatch.specs.Seen.{Seen, seen, exported, base-numbered, value-in, seen-value, exported-value, SeenItems, seen-items, exported-items, SeenWalk, seen-walk, exported-walk}
-use Rattle.vireopatch.specs.Numbers.{numbered, base-told, numbered-value, numbered-items, numbered-walk}
+use Rattle.vireopatch.specs.Numbers.{numbered, numbered-value, numbered-items, numbered-walk}
 use Rattle.vireopatch.specs.declared.ReadNumbers.{ReadNumbers}
 use Rattle.vireopatch.specs.declared.ValueNumbers.{ValueNumbers}
 use Rattle.vireopatch.specs.declared.ItemNumbers.{ItemNumbers}
 use Rattle.vireopatch.specs.declared.WalkNumbers.{WalkNumbers}
-use Rattle.vireopatch.specs.declared.Typed.{Typed}
-use Rattle.vireopatch.specs.declared.Typed.the-variants.{Known, Unknown}
 
 -- Reading a text ------------------------------------------------------------
 
@@ -60,10 +59,6 @@ pub read-shown : {c : Call} {t e q : List ℕ} {r : Answer} {x : ReadNumbers} �
 read-shown {c} {t} {e} {q} {r} {x} m h = ap (λ (y : ReadNumbers). shown y t e q) h ∙ (numbers-shown c t e q r ∙ ap exported (m .outcome-is))
 
 -- Number text to value ------------------------------------------------------
-
-pub no-base : (n : ℕ) → (n ≡ 1 → ⊥) → (n ≡ 2 → ⊥) → (n ≡ 3 → ⊥) → none ≡ base-numbered n
-unfolding base-numbered
-no-base n a b c = rw (ne-eqb n 1 a) (rw (ne-eqb n 2 b) (rw (ne-eqb n 3 c) refl))
 
 pub no-type-shown : (t : Typed) (n : ℕ) (s : List ℕ) → base-told t ≡ base-numbered n → t ≡ Unknown → seen-value 10 0 ≡ exported-value (value-in (base-numbered n) s)
 unfolding exported-value value-in

@@ -1,11 +1,8 @@
 -- The answers of the calls in numbers, case by case.
 use mathlib.Core.Bool.{Bool}
-use mathlib.Core.Option.{Option, none, some}
 use Prim.Native.Nat.{ℕ}
-use Rattle.reading.specs.Number.{Base}
 use Rattle.parser.specs.declared.Answer.{Answer}
 use Rattle.parser.specs.declared.Answer.the-variants.{Read, TooLong, HighByte, ScopeTooLarge, LevelTooLarge, TooDeep, NoRoomForRows, NoRoomForErrors, NoRoomForRequests}
-use Rattle.number.specs.Answers.{base-of}
 use Rattle.number.specs.declared.Valued.{Valued}
 use Rattle.number.specs.declared.Valued.the-variants.{Is, NotANumber, TooLarge}
 use Rattle.trivia.specs.declared.ItemsAnswer.{ItemsAnswer}
@@ -16,8 +13,6 @@ use Rattle.vireopatch.specs.declared.ReadNumbers.{ReadNumbers}
 use Rattle.vireopatch.specs.declared.ValueNumbers.{ValueNumbers}
 use Rattle.vireopatch.specs.declared.ItemNumbers.{ItemNumbers}
 use Rattle.vireopatch.specs.declared.WalkNumbers.{WalkNumbers}
-use Rattle.vireopatch.specs.declared.Typed.{Typed}
-use Rattle.vireopatch.specs.declared.Typed.the-variants.{Known, Unknown}
 
 -- a refusal: no records, and the end state is the starting state
 abbrev pub no-reading : ℕ → ℕ → ℕ → Bool → ReadNumbers
@@ -34,10 +29,6 @@ numbered (TooDeep g) n f = no-reading 5 g n f
 numbered (NoRoomForRows g) n f = no-reading 6 g n f
 numbered (NoRoomForErrors g) n f = no-reading 7 g n f
 numbered (NoRoomForRequests g) n f = no-reading 8 g n f
-
-abbrev pub base-told : Typed → Option Base
-base-told (Known t) = some (base-of t)
-base-told Unknown = none
 
 abbrev pub numbered-value : Valued → ValueNumbers
 numbered-value (Is v) = record { code = 0; value = v }

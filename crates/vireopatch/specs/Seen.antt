@@ -1,22 +1,17 @@
 -- What a caller in C or Rust sees of a call: the number returned, the numbers behind the pointers, and the tables. Each is a function of what
 -- crate reading defines for that call. Crate parser has that of reading a text, since its call means the same.
-use mathlib.Core.Bool.{cond}
 use mathlib.Core.List.{List}
 use mathlib.Core.Option.{Option, none, some}
 use Prim.Native.Nat.{ℕ}
-use lib.Dec.{eqb}
 use Rattle.reading.specs.Table.{Answer, answered, refused}
-use Rattle.reading.specs.Number.{Base, hexadecimal, decimal, binary, number-value}
+use Rattle.reading.specs.Number.{Base, number-value}
 use Rattle.reading.specs.Items.{Listed}
 use Rattle.reading.specs.Walk.{Subtree}
 pub use Rattle.parser.specs.Seen.{code-of, given-of, counts-of, Seen, seen}
 unfoldable pub use Rattle.parser.specs.Seen.{exported}
+unfoldable pub use Rattle.number.specs.Answers.{base-numbered}
 
 -- Number text to value ------------------------------------------------------
-
--- the types as the details of rows of kind 49 have them
-unfoldable pub base-numbered : ℕ → Option Base
-base-numbered n = cond (eqb n 1) (some hexadecimal) (cond (eqb n 2) (some decimal) (cond (eqb n 3) (some binary) none))
 
 -- of an unknown base there are no digits, and no words either: every text is refused with 10, giving 0
 unfoldable pub value-in : Option Base → List ℕ → Answer ℕ

@@ -1,6 +1,6 @@
 // The public calls for C and Rust, over numbers and slices. A call returns 0 for an answer, or the refusal's number; what else it says stands
 // behind pointers.
-use number::NumberType;
+use number::Typed;
 use number::Valued;
 use parser::Answer;
 use table::Walked;
@@ -11,7 +11,7 @@ ghost use Rattle.reading.specs.Outcome.{outcome};
 ghost use Rattle.reading.specs.Walk.{walk};
 ghost use Rattle.parser.specs.Answers.{call};
 ghost use Rattle.vireopatch.specs.Seen.{seen, exported, base-numbered, value-in, seen-value, exported-value, seen-items, exported-items, seen-walk, exported-walk};
-ghost use Rattle.vireopatch.specs.Numbers.{no-reading, numbered, base-told, numbered-value, numbered-items, numbered-walk};
+ghost use Rattle.vireopatch.specs.Numbers.{no-reading, numbered, numbered-value, numbered-items, numbered-walk};
 
 struct ReadNumbers {
     code: u32,
@@ -92,23 +92,6 @@ pub extern "C" fn vireopatch_read(
     n.code
 }
 
-enum Typed {
-    Known(NumberType),
-    Unknown,
-}
-
-// A number type by its number, as rows of kind 49 have it.
-fn typed_of(number: u32) -> Typed
-    ensures { λ r. ⌜ base-told r ≡ base-numbered number ⌝ }
-{
-    match number {
-        1 => Typed::Known(NumberType::Hex),
-        2 => Typed::Known(NumberType::Dec),
-        3 => Typed::Known(NumberType::Bin),
-        _ => Typed::Unknown,
-    }
-}
-
 struct ValueNumbers {
     code: u32,
     value: u64,
@@ -129,7 +112,7 @@ fn value_numbers_of(valued: Valued) -> ValueNumbers
 pub extern "C" fn vireopatch_value(number_type: u32, text: &[u8], value: &mut u64) -> u32
     ensures { λ r. ⌜ seen-value r (now (value .exit)) ≡ exported-value (value-in (base-numbered «number_type») (now (text .entry))) ⌝ }
 {
-    let typed = typed_of(number_type);
+    let typed = number::typed_of(number_type);
     let Typed::Known(ty) = typed else {
         *value = 0;
         return 10;

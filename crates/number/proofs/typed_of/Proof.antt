@@ -1,9 +1,15 @@
 -- Three numbers are types, and every other number is none.
-use mathlib.Core.Path.{ap, sym}
-use Rattle.vireopatch.specs.Seen.{base-numbered}
-use Rattle.vireopatch.proofs.Shown.{no-base}
-use Rattle.vireopatch.proofs.typed_of.Statement.{statement}
-use Rattle.vireopatch.proofs.typed_of.Tie as tie
+use mathlib.Core.Path.{_≡_, refl, ap, sym}
+use mathlib.Core.Option.{none}
+use Prim.Native.Nat.{ℕ}
+use borrow.Author.Tests.{ne-eqb}
+use Rattle.number.specs.Answers.{base-numbered}
+use Rattle.number.proofs.typed_of.Statement.{statement}
+use Rattle.number.proofs.typed_of.Tie as tie
+
+no-base : (n : ℕ) → (n ≡ 1 → ⊥) → (n ≡ 2 → ⊥) → (n ≡ 3 → ⊥) → none ≡ base-numbered n
+unfolding base-numbered
+no-base n a b c = rw (ne-eqb n 1 a) (rw (ne-eqb n 2 b) (rw (ne-eqb n 3 c) refl))
 
 returns : tie.Need-returns
 unfolding base-numbered
