@@ -12,7 +12,7 @@ use table::REQUEST;
 use table::ROW;
 use table::column;
 use table::kind;
-ghost use Prim.Native.Nat.{_+_, _≤_, _<_};
+ghost use Prim.Native.Nat.{_≤_, _<_};
 ghost use lib.ListN.{length};
 
 // So many bytes stand before a text, and so many behind it.

@@ -4,7 +4,7 @@ use mathlib.Core.Path.{_≡_, ap, sym, _∙_}
 use mathlib.Core.Option.{Option, some}
 use Prim.Native.Nat.{ℕ}
 use Rattle.reading.specs.Number.{Base, number-value}
-use Rattle.number.specs.Part.{Part, bytes-of, Zeros, Digits, one, Alone}
+use Rattle.number.specs.Part.{Part, bytes-of, Zeros, one, Alone}
 use Rattle.number.proofs.Part.{same-bytes, zeros-before, zeros-one}
 use Rattle.vireopatch.specs.Seen.{base-numbered, value-in, seen-value, exported-value}
 
