@@ -26,26 +26,28 @@ fn main() {
     import(&text[..n]);
 }
 
+// Room for 65,536 rows, 4,096 errors and 4,096 requests; level 64; from scope 0 with the flag clear.
 fn import(text: &[u8]) {
-    let mut words = [0u32; 16384 * ROW];
-    let mut errors = [0u32; 64 * ERROR];
-    let mut requests = [0u32; 64 * REQUEST];
+    let mut words = [0u32; 65536 * ROW];
+    let mut errors = [0u32; 4096 * ERROR];
+    let mut requests = [0u32; 4096 * REQUEST];
     let r = parser::read(text, 0, false, 64, &mut words, &mut errors, &mut requests);
     let Answer::Read(x) = r else {
-        io::write_all(STDOUT_FILENO, b"no reading\n");
+        output::not_read(r);
         return;
     };
     top_rows(text, &words, x.rows);
 }
 
+// Room for 65,537 top rows, one for each byte and the Eof.
 fn top_rows(text: &[u8], words: &[u32], count: usize) {
-    let mut roots = [0usize; 4096];
+    let mut roots = [0usize; 65537];
     let r = rows::tops(words, count, &mut roots);
-    let TopsAnswer::Count(n) = r else {
-        io::write_all(STDOUT_FILENO, b"too many top rows\n");
-        return;
-    };
-    lines(text, words, &roots, n);
+    match r {
+        TopsAnswer::Count(n) => lines(text, words, &roots, n),
+        TopsAnswer::NoSubtree(at) => output::refused(13, at),
+        TopsAnswer::NoRoom(n) => output::refused(6, n),
+    }
 }
 
 // A line for each top row. Its subtree begins behind the one before.
@@ -56,7 +58,7 @@ fn lines(text: &[u8], words: &[u32], roots: &[usize], n: usize) {
         if n <= i {
             return;
         }
-        print(b"row ", i + 1);
+        output::number(b"row ", i + 1);
         io::write_all(STDOUT_FILENO, b":");
         first = numbers(text, words, first, roots[i]);
         io::write_all(STDOUT_FILENO, b"\n");
@@ -79,28 +81,38 @@ fn numbers(text: &[u8], words: &[u32], first: usize, root: usize) -> usize {
     row
 }
 
-// The rows of a number are its type (49), its digits (50) and itself (39), one behind the other. A reading has them, with places in its text:
-// that is tested here, and not proved.
+// The rows of a number are its type (49), its digits (50) and itself (39), one behind the other. That a reading has them so, with places in its
+// text, is tested here and not proved.
 fn number(text: &[u8], words: &[u32], row: usize)
     requires { ⌜ row < length (now words) / row-width ⌝ }
 {
     if row < 2 {
-        return;
+        return missing();
     }
     let digits = (row - 1) * ROW;
     let mark = (row - 2) * ROW;
+    if wide(words[mark + column::KIND]) != kind::NUMBER_TYPE {
+        return missing();
+    }
+    if wide(words[digits + column::KIND]) != kind::NUMBER_TEXT {
+        return missing();
+    }
     let Typed::Known(ty) = number::typed_of(words[mark + column::DETAIL]) else {
-        return;
+        return missing();
     };
     let low = wide(words[digits + column::LOW]);
     let high = wide(words[digits + column::HIGH]);
     if high < low {
-        return;
+        return missing();
     }
     if text.len() < high {
-        return;
+        return missing();
     }
     answer(value_of(ty, text, low, high), low, high);
+}
+
+fn missing() {
+    io::write_all(STDOUT_FILENO, b" no digits");
 }
 
 // The value of the digits from low to high. They are not copied: the part that is lent is the text's.
@@ -123,14 +135,9 @@ fn answer(r: Valued, low: usize, high: usize) {
 }
 
 fn refused(code: usize, low: usize, high: usize) {
-    print(b" refused ", code);
-    print(b" at ", low);
-    print(b"..", high);
-}
-
-fn print(label: &[u8], n: usize) {
-    io::write_all(STDOUT_FILENO, label);
-    io::print_decimal(STDOUT_FILENO, n as u64);
+    output::number(b" refused ", code);
+    output::number(b" at ", low);
+    output::number(b"..", high);
 }
 
 fn wide(x: u32) -> usize {

@@ -12,7 +12,7 @@ fn main() {
     let mut text = [0u8; 8193];
     let n = io::read_full(STDIN_FILENO, &mut text);
     if LONGEST < n {
-        refused(1, LONGEST);
+        output::refused(1, LONGEST);
         return;
     }
     listing(&text[..n]);
@@ -24,38 +24,21 @@ fn listing(text: &[u8]) {
     let mut errors = [0u32; 64 * table::ERROR];
     let mut requests = [0u32; 64 * table::REQUEST];
     let r = parser::read(text, 0, false, 32, &mut rows, &mut errors, &mut requests);
-    match r {
-        Answer::Read(x) => {
-            io::write_all(STDOUT_FILENO, b"kind size tlow low high detail\n");
-            records(&rows, x.rows, table::ROW);
-            io::write_all(STDOUT_FILENO, b"error low high\n");
-            records(&errors, x.errors, table::ERROR);
-            io::write_all(STDOUT_FILENO, b"request low high\n");
-            records(&requests, x.requests, table::REQUEST);
-            end(x);
-        }
-        Answer::TooLong(n) => refused(1, n),
-        Answer::HighByte(n) => refused(2, n),
-        Answer::ScopeTooLarge(n) => refused(3, n),
-        Answer::LevelTooLarge(n) => refused(4, n),
-        Answer::TooDeep(n) => refused(5, n),
-        Answer::NoRoomForRows(n) => refused(6, n),
-        Answer::NoRoomForErrors(n) => refused(7, n),
-        Answer::NoRoomForRequests(n) => refused(8, n),
-    }
-}
-
-fn refused(number: usize, gives: usize) {
-    io::write_all(STDOUT_FILENO, b"refusal number\n");
-    io::print_decimal(STDOUT_FILENO, number as u64);
-    io::write_all(STDOUT_FILENO, b" ");
-    io::print_decimal(STDOUT_FILENO, gives as u64);
-    io::write_all(STDOUT_FILENO, b"\n");
+    let Answer::Read(x) = r else {
+        output::not_read(r);
+        return;
+    };
+    io::write_all(STDOUT_FILENO, b"kind size tlow low high detail\n");
+    records(&rows, x.rows, table::ROW);
+    io::write_all(STDOUT_FILENO, b"error low high\n");
+    records(&errors, x.errors, table::ERROR);
+    io::write_all(STDOUT_FILENO, b"request low high\n");
+    records(&requests, x.requests, table::REQUEST);
+    end(x);
 }
 
 fn end(x: Reading) {
-    io::write_all(STDOUT_FILENO, b"scope swallow\n");
-    io::print_decimal(STDOUT_FILENO, x.scope as u64);
+    output::number(b"scope swallow\n", x.scope);
     if x.swallow {
         io::write_all(STDOUT_FILENO, b" 1\n");
     } else {

@@ -65,14 +65,14 @@ fn line(input: &[u8], at: usize, next: usize, text: &mut [u8], tally: Tally) -> 
     requires { ⌜ (at < next) × (next ≤ length (now input)) ⌝ }
 {
     if input[at] == b'#' {
-        print(b"equal ", tally.equal);
-        print(b", different ", tally.different);
+        output::number(b"equal ", tally.equal);
+        output::number(b", different ", tally.different);
         io::write_all(STDOUT_FILENO, &input[at + 1..next]);
         return none();
     }
     let same = case(input, at, next, text);
     if !same {
-        print(b"different: byte ", at);
+        output::number(b"different: byte ", at);
         io::write_all(STDOUT_FILENO, b"\n");
     }
     counted(tally, same)
@@ -236,11 +236,6 @@ fn has(rows: &[u32], c: Expected) -> bool {
         & (wide(rows[i + column::KIND]) == kind::NUMBER_TEXT)
         & (wide(rows[i + column::LOW]) == c.low)
         & (wide(rows[i + column::HIGH]) == c.high)
-}
-
-fn print(label: &[u8], n: usize) {
-    io::write_all(STDOUT_FILENO, label);
-    io::print_decimal(STDOUT_FILENO, n as u64);
 }
 
 fn wide(x: u32) -> usize {

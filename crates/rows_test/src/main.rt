@@ -42,7 +42,7 @@ fn lines(words: &[u32], roots: &[usize], n: usize) {
         if n <= i {
             return;
         }
-        number(b"row ", i + 1);
+        output::number(b"row ", i + 1);
         line(words, roots[i]);
         i += 1;
     }
@@ -53,10 +53,10 @@ fn line(words: &[u32], root: usize) {
         return;
     }
     let i = root * ROW;
-    number(b": kind ", wide(words[i + column::KIND]));
-    number(b", bytes ", wide(words[i + column::LOW]));
-    number(b"..", wide(words[i + column::HIGH]));
-    number(b", rows ", wide(words[i + column::SIZE]));
+    output::number(b": kind ", wide(words[i + column::KIND]));
+    output::number(b", bytes ", wide(words[i + column::LOW]));
+    output::number(b"..", wide(words[i + column::HIGH]));
+    output::number(b", rows ", wide(words[i + column::SIZE]));
     io::write_all(STDOUT_FILENO, b"\n");
 }
 
@@ -77,24 +77,19 @@ fn show(label: &[u8], words: &[u32], count: usize) {
     io::write_all(STDOUT_FILENO, label);
     let r = rows::tops(words, count, &mut roots);
     match r {
-        TopsAnswer::Count(n) => number(b": ", n),
+        TopsAnswer::Count(n) => output::number(b": ", n),
         TopsAnswer::NoSubtree(at) => refused(13, at),
         TopsAnswer::NoRoom(n) => refused(6, n),
     }
-    number(b", words ", roots[0]);
-    number(b" ", roots[1]);
-    number(b" ", roots[2]);
+    output::number(b", words ", roots[0]);
+    output::number(b" ", roots[1]);
+    output::number(b" ", roots[2]);
     io::write_all(STDOUT_FILENO, b"\n");
 }
 
 fn refused(code: usize, gives: usize) {
-    number(b": refused ", code);
-    number(b" ", gives);
-}
-
-fn number(label: &[u8], n: usize) {
-    io::write_all(STDOUT_FILENO, label);
-    io::print_decimal(STDOUT_FILENO, n as u64);
+    output::number(b": refused ", code);
+    output::number(b" ", gives);
 }
 
 fn wide(x: u32) -> usize {

@@ -17,14 +17,14 @@ loop-holds c = omega arith
 returns : tie.Need-returns Inv-loop μ-loop
 returns c = search needs
 
-slice-aggregate-print : tie.Need-slice-aggregate-print Inv-loop μ-loop
-slice-aggregate-print c = search needs
+slice-aggregate-number : tie.Need-slice-aggregate-number Inv-loop μ-loop
+slice-aggregate-number c = search needs
 
-add-print : tie.Need-add-print Inv-loop μ-loop
-add-print c = omega arith
+add-number : tie.Need-add-number Inv-loop μ-loop
+add-number c = omega arith
 
-print-requires : tie.Need-print-requires Inv-loop μ-loop
-print-requires c κs = search needs
+number-requires : tie.Need-number-requires Inv-loop μ-loop
+number-requires c κs = search needs
 
 slice-aggregate-write-all : tie.Need-slice-aggregate-write-all Inv-loop μ-loop
 slice-aggregate-write-all c = search needs
@@ -67,9 +67,9 @@ lines-spec =
     μ-loop
     loop-holds
     returns
-    slice-aggregate-print
-    add-print
-    print-requires
+    slice-aggregate-number
+    add-number
+    number-requires
     slice-aggregate-write-all
     write-all-requires
     mul-numbers

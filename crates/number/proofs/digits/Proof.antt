@@ -1,5 +1,4 @@
 -- What was read, with the bytes that are left behind it, is answered as the whole text.
--- At the end no byte is left.
 use mathlib.Core.Path.{_∙_}
 use Prim.Native.Nat.{_-_}
 use native.Mathlib.Omega.{arith}
