@@ -20,6 +20,7 @@ ghost use Rattle.reading.specs.Table.{row-width};
 ghost use Rattle.number.specs.Answers.{base-of, told};
 ghost use Rattle.number.specs.Part.{part-of};
 
+// One byte more than the longest text is read: of a longer table the refusal gives 65,537 as its length.
 fn main() {
     let mut text = [0u8; 65537];
     let n = io::read_full(STDIN_FILENO, &mut text);

@@ -1,4 +1,4 @@
-// What the programs print.
+// What several programs print.
 use libc::STDOUT_FILENO;
 use parser::Answer;
 

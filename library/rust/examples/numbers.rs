@@ -28,7 +28,7 @@ fn main() {
     }
     for (i, top) in tops.iter().rev().enumerate() {
         print!("row {}:", i + 1);
-        for row in (top.before..top.root).filter(|row| rows[*row][column::KIND] == kind::NUMBER) {
+        for row in (top.before..=top.root).filter(|row| rows[*row][column::KIND] == kind::NUMBER) {
             print_number(&text, &rows, row);
         }
         println!();
