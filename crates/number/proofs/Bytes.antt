@@ -17,12 +17,15 @@ parts false b e = absurd (let z : _≡_ {A = ℕ} 0 1 = cc in let y : ⊥ = omeg
 pub at-least : (a z b : ℕ) → within a z b ≡ true → a ≤ b
 at-least a z b e = leb-true a b (parts (leb a b) (leb b z) e .0)
 
+pub at-most : (a z b : ℕ) → within a z b ≡ true → b ≤ z
+at-most a z b e = leb-true b z (parts (leb a b) (leb b z) e .1)
+
 -- the test passes at each number below n
-abbrev below : (ℕ → Bool) → ℕ → Bool
+abbrev pub below : (ℕ → Bool) → ℕ → Bool
 below f zero = true
 below f (suc n) = f 0 && below (λ k. f (suc k)) n
 
-at : (f : ℕ → Bool) (n : ℕ) → below f n ≡ true → (k : ℕ) → k < n → f k ≡ true
+pub at : (f : ℕ → Bool) (n : ℕ) → below f n ≡ true → (k : ℕ) → k < n → f k ≡ true
 at f zero e k h = absurd (not-suc-le-zero h)
 at f (suc n) e zero h = parts (f 0) (below (λ k. f (suc k)) n) e .0
 at f (suc n) e (suc k) h = at (λ k. f (suc k)) n (parts (f 0) (below (λ k. f (suc k)) n) e .1) k (le-of-suc-le-suc h)

@@ -2,3 +2,4 @@ pub mod Words
 pub mod Bytes
 pub mod Totals
 pub mod Part
+pub mod Spelling

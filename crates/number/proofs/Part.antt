@@ -18,7 +18,7 @@ use Rattle.number.specs.declared.Valued.the-variants.{Is, NotANumber, To
 use Rattle.number.specs.Answers.{base-of, told}
 use Rattle.number.specs.Part.{Part, size, byte, bytes-of, Equal, Zeros, Digits, one, Alone}
 use Rattle.number.proofs.Bytes.{parts}
-use Rattle.number.proofs.Words.{words}
+use Rattle.number.proofs.Words.{words, no-word, true-digits, false-digits}
 
 -- The bytes of a part ---------------------------------------------------------
 
@@ -65,32 +65,8 @@ of-digits {x} {q} d = go (bytes-of q) (many q) (all-in x (bytes-of q) λ k h. le
 
 -- Zeros before digits ---------------------------------------------------------
 
-same-all : (s t : List ℕ) → same s t ≡ true → s ≡ t
-same-all [] [] e = refl
-same-all [] (b ∷ t) e = cc
-same-all (a ∷ s) [] e = cc
-same-all (a ∷ s) (b ∷ t) e = let p = parts (eqb a b) (same s t) e in ap₂ _∷_ (eqb-true a b (p .0)) (same-all s t (p .1))
-
--- what are digits is no word
-no-word : (x : Base) (t w : List ℕ) → digits x t ≡ true → digits x w ≡ false → same t w ≡ false
-no-word x t w d f = go (same t w) refl
-  where
-    go : (y : Bool) → same t w ≡ y → same t w ≡ false
-    go false e = e
-    go true e = let z : digits x t ≡ false = ap (digits x) (same-all t w e) ∙ f in cc
-
 digits-are : (x : Base) (t : List ℕ) → digits x t ≡ true → number-value x t ≡ digits-value x t
-digits-are x t d = words x t (no-word x t (bytes "true") d (true-none x)) (no-word x t (bytes "false") d (false-none x))
-  where
-    true-none : (x : Base) → digits x (bytes "true") ≡ false
-    true-none hexadecimal = refl
-    true-none decimal = refl
-    true-none binary = refl
-
-    false-none : (x : Base) → digits x (bytes "false") ≡ false
-    false-none hexadecimal = refl
-    false-none decimal = refl
-    false-none binary = refl
+digits-are x t d = words x t (no-word x t (bytes "true") d (true-digits x)) (no-word x t (bytes "false") d (false-digits x))
 
 -- one zero
 zero-digits : (x : Base) (t : List ℕ) → digits x t ≡ true → digits x (48 ∷ t) ≡ true

@@ -12,7 +12,7 @@ use Rattle.reading.specs.Table.{Answer, answered, refused}
 use Rattle.reading.specs.Number.{Base, hexadecimal, decimal, binary, radix, is-digit, digit-value, all-digits, value-from, digits-value}
 use Rattle.number.specs.Steps.{digit-or-none, limit, capped, decided}
 use Rattle.number.proofs.Bytes.{is-one, is-none}
-use Rattle.number.proofs.Words.{cons}
+use Rattle.cursor.proofs.Places.{cons}
 
 pub radix-pos : (x : Base) → 0 < radix x
 radix-pos hexadecimal = omega arith

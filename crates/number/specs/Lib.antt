@@ -1,3 +1,4 @@
 pub mod Answers
 pub mod Part
+pub mod Spelling
 pub mod Steps

@@ -1,7 +1,8 @@
 // The value of a number's text: document 01, "Number text to value".
+use table::Pos;
 ghost use mathlib.Core.Path.{_≡_};
 ghost use Prim.Native.Nat.{_+_, _*_, _<_};
-ghost use Rattle.reading.specs.Number.{radix, same as same-bytes, digits-value, number-value};
+ghost use Rattle.reading.specs.Number.{radix, same, lowered, digits-value, number-value};
 ghost use Rattle.number.specs.Answers.{base-of, base-told, base-numbered, told};
 ghost use Rattle.number.specs.Steps.{digit-or-none, capped, decided};
 
@@ -39,33 +40,27 @@ pub fn typed_of(number: u32) -> Typed
 }
 
 // The text is a part of the one that was read, `&text[low..high]` of a row of kind 50; it may be any bytes, and of any length. The words first, as
-// the Rust has it.
+// the Rust has it, but in any letter case.
 pub fn value(ty: NumberType, text: &[u8]) -> Valued
     ensures { λ r. ⌜ told r ≡ number-value (base-of ty) (now (text .entry)) ⌝ }
 {
-    if same(text, b"true") {
+    if is_word(text, b"true") {
         return Valued::Is(1);
     }
-    if same(text, b"false") {
+    if is_word(text, b"false") {
         return Valued::Is(0);
     }
     digits(ty, text)
 }
 
-fn same(text: &[u8], word: &[u8]) -> bool
-    ensures { λ r. ⌜ r ≡ same-bytes (now (text .entry)) (now (word .entry)) ⌝ }
+// Whether the text is a word, in any letter case, and nothing else. The word is given in lower case.
+fn is_word(text: &[u8], lower: &[u8]) -> bool
+    ensures { λ r. ⌜ r ≡ same (lowered (now (text .entry))) (now (lower .entry)) ⌝ }
 {
-    if text.len() != word.len() {
+    if text.len() != lower.len() {
         return false;
     }
-    let mut i = 0;
-    while i < word.len() {
-        if text[i] != word[i] {
-            return false;
-        }
-        i += 1;
-    }
-    true
+    word::begins(text, Pos(0), lower)
 }
 
 // Every byte is tested, those behind a value that is too large too.

@@ -49,6 +49,16 @@ digits-value x t =
     (cond (ltb 9223372036854775807 (value-from x 0 t)) (refused 9 0)
     (answered (value-from x 0 t)))
 
--- the words first, as the Rust has it
+-- the letters in lower case
+abbrev pub lowered : List ℕ → List ℕ
+lowered [] = []
+lowered (b ∷ t) = lower b ∷ lowered t
+
+-- the words first, as the Rust has it, but in any letter case
 unfoldable pub number-value : Base → List ℕ → Answer ℕ
-number-value x t = cond (same t (bytes "true")) (answered 1) (cond (same t (bytes "false")) (answered 0) (digits-value x t))
+number-value x t = cond (same (lowered t) (bytes "true")) (answered 1) (cond (same (lowered t) (bytes "false")) (answered 0) (digits-value x t))
+
+-- document 01's definition, in which only the lower-case words have a value. Document 02, F-6, amends it; crate number, specs/Spelling, says
+-- what that changed
+unfoldable pub value-before : Base → List ℕ → Answer ℕ
+value-before x t = cond (same t (bytes "true")) (answered 1) (cond (same t (bytes "false")) (answered 0) (digits-value x t))

@@ -1,3 +1,4 @@
 pub mod Shown
 pub mod Demand
 pub mod Part
+pub mod Spelling
