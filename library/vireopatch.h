@@ -45,7 +45,7 @@ enum {
     VIREOPATCH_NO_ROOM_FOR_ERRORS    = 7,   /* gives the number of errors needed */
     VIREOPATCH_NO_ROOM_FOR_REQUESTS  = 8,   /* gives the number of requests needed */
     VIREOPATCH_VALUE_TOO_LARGE       = 9,   /* a number above VIREOPATCH_MAX_VALUE */
-    VIREOPATCH_NOT_A_NUMBER          = 10,  /* anything but `true`, `false` or one or more digits of the base; any text, if the type is none */
+    VIREOPATCH_NOT_A_NUMBER          = 10,  /* anything but `true`, `false` (any letter case) or one or more digits of the base; any text, if the type is none */
     VIREOPATCH_NO_ITEM               = 11,  /* gives the first place that starts no item of trivia */
     VIREOPATCH_NO_ROOM_FOR_ITEMS     = 12,  /* gives the number of items needed */
     VIREOPATCH_NO_SUBTREE            = 13   /* gives the count */
@@ -231,7 +231,7 @@ enum {
 /* 49, number types. */
 enum {
     VIREOPATCH_NUMBER_HEX = 1,  /* `$` */
-    VIREOPATCH_NUMBER_DEC = 2,  /* no mark; `true` and `false` too */
+    VIREOPATCH_NUMBER_DEC = 2,  /* no mark; `true` and `false` too, in any letter case */
     VIREOPATCH_NUMBER_BIN = 3   /* `%` */
 };
 
@@ -312,8 +312,8 @@ uint32_t vireopatch_read(
  *
  * The outcome depends on number_type and these bytes alone, and zeros before one or more digits change nothing: 65,535 zeros and a 1 are 1.
  *
- * `true` is 1 and `false` is 0, in lower case only. Hexadecimal digits may be of either case. There is no sign. Where number_type is none of
- * VIREOPATCH_NUMBER_.., no text is a number, `true` and `false` neither: 10.
+ * `true` is 1 and `false` is 0, in any letter case and for each number_type. Hexadecimal digits may be of either case too. There is no sign.
+ * Where number_type is none of VIREOPATCH_NUMBER_.., no text is a number, `true` and `false` neither: 10.
  *
  * Returns 0, or the first of these that applies: 10, 9. Each gives 0.
  */

@@ -1,23 +1,20 @@
 -- Document 02, F-3 (specs/Part), of `number::value`: any two calls with one number type that meet the contract.
 use mathlib.Core.Path.{_≡_, refl, ap, ap₂, sym, _∙_, subst}
-use mathlib.Core.Bool.{Bool, true, false, _&&_}
+use mathlib.Core.Bool.{true, false, _&&_}
 use mathlib.Core.List.{List, [], _∷_, _++_}
 use mathlib.Core.Option.{some}
 use Prim.Native.Nat.{ℕ, zero, suc, _+_, _<_}
 use native.Mathlib.Omega.{arith}
-use borrow.Author.Tests.{eqb-true}
-use lib.Dec.{eqb}
 use lib.ListN.{length, getD, take, drop, replicate, length-replicate, getD-replicate, length-drop, take-append-drop}
 use lib.Seq.{length-take-le, getD-take, getD-drop, ext-getD}
 use Rattle.reading.specs.Byte.{bytes}
 use Rattle.reading.specs.Table.{answered}
-use Rattle.reading.specs.Number.{Base, hexadecimal, decimal, binary, same, is-digit, all-digits, digits, digits-value, number-value}
+use Rattle.reading.specs.Number.{Base, hexadecimal, decimal, binary, is-digit, all-digits, digits, digits-value, number-value}
 use Rattle.number.specs.declared.NumberType.{NumberType}
 use Rattle.number.specs.declared.Valued.{Valued}
 use Rattle.number.specs.declared.Valued.the-variants.{Is, NotANumber, TooLarge}
 use Rattle.number.specs.Answers.{base-of, told}
 use Rattle.number.specs.Part.{Part, size, byte, bytes-of, Equal, Zeros, Digits, one, Alone}
-use Rattle.number.proofs.Bytes.{parts}
 use Rattle.number.proofs.Words.{words, no-word, true-digits, false-digits}
 
 -- The bytes of a part ---------------------------------------------------------

@@ -1,19 +1,19 @@
 -- Document 02, F-6 (specs/Spelling), of the definition, and of `number::value`.
 use mathlib.Core.Path.{_≡_, refl, ap, ap₂, sym, _∙_}
-use mathlib.Core.Bool.{Bool, true, false, _&&_, _||_, cond, and-false, or-true, or-false, or-assoc, and-or-distrib-left, and-or-distrib-right, true≢false}
-use mathlib.Core.List.{List, [], _∷_, _++_}
-use Prim.Native.Nat.{ℕ, _+_, _-_, _≤_, _<_}
+use mathlib.Core.Bool.{Bool, true, false, _&&_, _||_, and-false, or-true, or-false, or-assoc, and-or-distrib-left, and-or-distrib-right, true≢false}
+use mathlib.Core.List.{List, [], _∷_, _++_, map}
+use Prim.Native.Nat.{ℕ, _+_, _-_}
 use native.Mathlib.Omega.{arith}
-use borrow.Author.Tests.{leb-true, le-leb, eqb-true, eqb-false, eq-eqb, ne-eqb}
-use lib.Dec.{eqb, leb}
-use lib.ListN.{length, drop}
+use borrow.Author.Tests.{le-leb, eqb-true, eqb-false, eq-eqb, ne-eqb}
+use lib.Dec.{eqb}
+use lib.ListN.{length}
 use Rattle.reading.specs.Byte.{bytes, within, lower}
 use Rattle.reading.specs.Table.{Answer, answered, refused}
-use Rattle.reading.specs.Number.{Base, same, lowered, digits, digits-value, number-value, value-before}
+use Rattle.reading.specs.Number.{Base, same, lowered, digits, number-value, value-before}
 use Rattle.number.specs.declared.NumberType.{NumberType}
 use Rattle.number.specs.declared.Valued.{Valued}
 use Rattle.number.specs.Answers.{base-of, told}
-use Rattle.number.specs.Spelling.{led, spellings, new-spellings, among, distinct, Amended}
+use Rattle.number.specs.Spelling.{spellings, other-spellings, new-spellings, among, distinct, Amended}
 use Rattle.number.proofs.Bytes.{parts, at-least, at-most}
 use Rattle.number.proofs.Words.{words, same-all, unlike, no-digits, true-digits, false-digits}
 
@@ -31,20 +31,22 @@ among-both : (t : List ℕ) (l m : List (List ℕ)) → among t (l ++ m) ≡ amo
 among-both t [] m = refl
 among-both t (s ∷ l) m = ap (λ x. same t s || x) (among-both t l m) ∙ sym (or-assoc (same t s) (among t l) (among t m))
 
-among-none : (b : ℕ) (l : List (List ℕ)) → among [] (led b l) ≡ false
+among-none : (b : ℕ) (l : List (List ℕ)) → among [] (map (b ∷_) l) ≡ false
 among-none b [] = refl
 among-none b (t ∷ l) = among-none b l
 
-among-led : (a b : ℕ) (t : List ℕ) (l : List (List ℕ)) → among (b ∷ t) (led a l) ≡ eqb b a && among t l
-among-led a b t [] = sym (and-false (eqb b a))
-among-led a b t (s ∷ l) = ap (λ x. eqb b a && same t s || x) (among-led a b t l) ∙ sym (and-or-distrib-left (eqb b a) (same t s) (among t l))
+among-behind : (a b : ℕ) (t : List ℕ) (l : List (List ℕ)) → among (b ∷ t) (map (a ∷_) l) ≡ eqb b a && among t l
+among-behind a b t [] = sym (and-false (eqb b a))
+among-behind a b t (s ∷ l) = ap (λ x. eqb b a && same t s || x) (among-behind a b t l) ∙ sym (and-or-distrib-left (eqb b a) (same t s) (among t l))
 
 -- a byte whose lower case is the letter is the letter, or its upper case
 letter : (a b : ℕ) → within 97 122 a ≡ true → eqb (lower b) a ≡ eqb b a || eqb b (a - 32)
 letter a b h = go (within 65 90 b) refl
   where
     go : (y : Bool) → within 65 90 b ≡ y → eqb (elim y [ true ↦ b + 32 | false ↦ b ]) a ≡ eqb b a || eqb b (a - 32)
-    go true e = raised (eqb b (a - 32)) refl ∙ sym (ap (λ x. x || eqb b (a - 32)) (ne-eqb b a λ k. omega (arith, k, at-least 97 122 a h, at-most 65 90 b e)))
+    go true e =
+        raised (eqb b (a - 32)) refl
+        ∙ sym (ap (λ x. x || eqb b (a - 32)) (ne-eqb b a λ k. omega (arith, k, at-least 97 122 a h, at-most 65 90 b e)))
       where
         raised : (y : Bool) → eqb b (a - 32) ≡ y → eqb (b + 32) a ≡ eqb b (a - 32)
         raised true k = eq-eqb (b + 32) a (omega (arith, eqb-true b (a - 32) k, at-least 97 122 a h)) ∙ sym k
@@ -62,35 +64,37 @@ letters (a ∷ w) = within 97 122 a && letters w
 pub spelled : (w t : List ℕ) → letters w ≡ true → among t (spellings w) ≡ same (lowered t) w
 spelled [] [] h = refl
 spelled [] (b ∷ t) h = refl
-spelled (a ∷ w) [] h = among-both [] (led a (spellings w)) (led (a - 32) (spellings w)) ∙ ap₂ _||_ (among-none a (spellings w)) (among-none (a - 32) (spellings w))
+spelled (a ∷ w) [] h =
+    among-both [] (map (a ∷_) (spellings w)) (map ((a - 32) ∷_) (spellings w))
+    ∙ ap₂ _||_ (among-none a (spellings w)) (among-none (a - 32) (spellings w))
 spelled (a ∷ w) (b ∷ t) h =
     let p = parts (within 97 122 a) (letters w) h in
-    among-both (b ∷ t) (led a (spellings w)) (led (a - 32) (spellings w))
-    ∙ ap₂ _||_ (among-led a b t (spellings w)) (among-led (a - 32) b t (spellings w))
+    among-both (b ∷ t) (map (a ∷_) (spellings w)) (map ((a - 32) ∷_) (spellings w))
+    ∙ ap₂ _||_ (among-behind a b t (spellings w)) (among-behind (a - 32) b t (spellings w))
     ∙ sym (and-or-distrib-right (eqb b a) (eqb b (a - 32)) (among t (spellings w)))
     ∙ ap₂ _&&_ (sym (letter a b (p .0))) (spelled w t (p .1))
 
 -- of a text and a word: the spellings that are new, and every other text
-module _ (t w : List ℕ) (l : letters w ≡ true) (first : spellings w ≡ w ∷ drop 1 (spellings w)) where
-  both : same t w || among t (drop 1 (spellings w)) ≡ same (lowered t) w
+module _ (t w : List ℕ) (l : letters w ≡ true) (first : spellings w ≡ w ∷ other-spellings w) where
+  both : same t w || among t (other-spellings w) ≡ same (lowered t) w
   both = ap (among t) (sym first) ∙ spelled w t l
 
-  is-new : among t (drop 1 (spellings w)) ≡ true → same (lowered t) w ≡ true
+  is-new : among t (other-spellings w) ≡ true → same (lowered t) w ≡ true
   is-new h = sym both ∙ (ap (λ x. same t w || x) h ∙ or-true (same t w))
 
-  is-old : among t (drop 1 (spellings w)) ≡ false → same (lowered t) w ≡ same t w
+  is-old : among t (other-spellings w) ≡ false → same (lowered t) w ≡ same t w
   is-old h = sym both ∙ (ap (λ x. same t w || x) h ∙ or-false (same t w))
 
 -- What changed ----------------------------------------------------------------
 
 abbrev trues : List (List ℕ)
-trues = drop 1 (spellings (bytes "true"))
+trues = other-spellings (bytes "true")
 
 abbrev falses : List (List ℕ)
-falses = drop 1 (spellings (bytes "false"))
+falses = other-spellings (bytes "false")
 
-in-either : (t : List ℕ) → among t new-spellings ≡ among t trues || among t falses
-in-either t = among-both t trues falses
+either-word : (t : List ℕ) → among t new-spellings ≡ among t trues || among t falses
+either-word t = among-both t trues falses
 
 module _ (x : Base) (t : List ℕ) where
   value-true : same (lowered t) (bytes "true") ≡ true → number-value x t ≡ answered 1
@@ -111,19 +115,27 @@ module _ (x : Base) (t : List ℕ) where
       go true e =
           let s : same (lowered t) (bytes "true") ≡ true = is-new t (bytes "true") refl refl e in
           k 1
-          (none-before (unlike (λ u. among u trues) t (bytes "true") e refl) (unlike (λ u. same (lowered u) (bytes "true")) t (bytes "false") s refl) (no-digits x t (bytes "true") s (true-digits x)))
+          (none-before
+          (unlike (λ u. among u trues) t (bytes "true") e refl)
+          (unlike (λ u. same (lowered u) (bytes "true")) t (bytes "false") s refl)
+          (no-digits x t (bytes "true") s (true-digits x)))
           (value-true s)
       go false e =
-          let f : among t falses ≡ true = sym (ap (λ y. y || among t falses) e) ∙ (sym (in-either t) ∙ h) in
+          let f : among t falses ≡ true = sym (ap (λ y. y || among t falses) e) ∙ (sym (either-word t) ∙ h) in
           let s : same (lowered t) (bytes "false") ≡ true = is-new t (bytes "false") refl refl f in
           k 0
-          (none-before (unlike (λ u. same (lowered u) (bytes "false")) t (bytes "true") s refl) (unlike (λ u. among u falses) t (bytes "false") f refl) (no-digits x t (bytes "false") s (false-digits x)))
+          (none-before
+          (unlike (λ u. same (lowered u) (bytes "false")) t (bytes "true") s refl)
+          (unlike (λ u. among u falses) t (bytes "false") f refl)
+          (no-digits x t (bytes "false") s (false-digits x)))
           (value-false s)
 
   -- every other text keeps its outcome
   others : among t new-spellings ≡ false → number-value x t ≡ value-before x t
   unfolding value-before
-  others h = let p = neither (among t trues) (among t falses) (sym (in-either t) ∙ h) in words x t (is-old t (bytes "true") refl refl (p .0)) (is-old t (bytes "false") refl refl (p .1))
+  others h =
+      let p = neither (among t trues) (among t falses) (sym (either-word t) ∙ h) in
+      words x t (is-old t (bytes "true") refl refl (p .0)) (is-old t (bytes "false") refl refl (p .1))
     where
       neither : (a b : Bool) → a || b ≡ false → (a ≡ false) × (b ≡ false)
       neither true b e = absurd (true≢false e)
@@ -136,7 +148,7 @@ module _ (x : Base) (t : List ℕ) where
       go true h = changed h λ w f g. cc
       go false h = others h ∙ e
 
--- A call ------------------------------------------------------------------------
+-- A call ----------------------------------------------------------------------
 
 -- of whatever a caller sees of an answer, if it can tell a value from refusal 10
 module _ {R : Type 0} (seen : Answer ℕ → R) (tells : (v : ℕ) → seen (answered v) ≡ seen (refused 10 0) → ⊥) where
@@ -151,7 +163,7 @@ module _ {R : Type 0} (seen : Answer ℕ → R) (tells : (v : ℕ) → seen (ans
       }
 
 pub value-amended : (ty : NumberType) (t : List ℕ) (r : Valued) → told r ≡ number-value (base-of ty) t → Amended (λ a. a) (base-of ty) t (told r)
-value-amended ty t r m = amended (λ a. a) (λ v e. no v e) (base-of ty) t (told r) m
+value-amended ty t r m = amended (λ a. a) no (base-of ty) t (told r) m
   where
     no : (v : ℕ) → answered v ≡ refused 10 0 → ⊥
     no v e = true≢false (ap (λ (a : Answer ℕ). elim a [ answered v ↦ true | refused n g ↦ false ]) e)

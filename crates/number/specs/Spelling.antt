@@ -3,7 +3,7 @@
 -- reading, specs/Number). proofs/Spelling proves it of `number::value`, and proofs/Spelling of crate vireopatch of `vireopatch_value`.
 use mathlib.Core.Path.{_≡_}
 use mathlib.Core.Bool.{Bool, true, false, _&&_, _||_, not}
-use mathlib.Core.List.{List, [], _∷_, _++_}
+use mathlib.Core.List.{List, [], _∷_, _++_, map}
 use Prim.Native.Nat.{ℕ, _-_}
 use lib.ListN.{drop}
 use Rattle.reading.specs.Byte.{bytes}
@@ -12,19 +12,18 @@ use Rattle.reading.specs.Number.{Base, same, value-before}
 
 -- Spellings -------------------------------------------------------------------
 
--- the byte before each of the texts
-abbrev pub led : ℕ → List (List ℕ) → List (List ℕ)
-led b [] = []
-led b (t ∷ l) = (b ∷ t) ∷ led b l
-
 -- a lower-case word in every letter case, the word itself first
 abbrev pub spellings : List ℕ → List (List ℕ)
 spellings [] = [] ∷ []
-spellings (b ∷ w) = led b (spellings w) ++ led (b - 32) (spellings w)
+spellings (b ∷ w) = map (b ∷_) (spellings w) ++ map ((b - 32) ∷_) (spellings w)
 
--- those of the two words but for the words themselves: proofs/Spelling counts 46, no two of them the same
+-- in every letter case but that one
+abbrev pub other-spellings : List ℕ → List (List ℕ)
+other-spellings w = drop 1 (spellings w)
+
+-- "these spellings": proofs/Spelling counts 46, no two of them the same
 abbrev pub new-spellings : List (List ℕ)
-new-spellings = drop 1 (spellings (bytes "true")) ++ drop 1 (spellings (bytes "false"))
+new-spellings = other-spellings (bytes "true") ++ other-spellings (bytes "false")
 
 -- the text is one of the list
 abbrev pub among : List ℕ → List (List ℕ) → Bool

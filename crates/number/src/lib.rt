@@ -1,4 +1,4 @@
-// The value of a number's text: document 01, "Number text to value".
+// The value of a number's text: document 01, "Number text to value", and document 02, F-6.
 use table::Pos;
 ghost use mathlib.Core.Path.{_≡_};
 ghost use Prim.Native.Nat.{_+_, _*_, _<_};

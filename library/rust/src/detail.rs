@@ -127,7 +127,7 @@ pub mod operator {
 pub mod number_type {
     /// `$`.
     pub const HEX: u32 = 1;
-    /// No mark; `true` and `false` too.
+    /// No mark; `true` and `false` too, in any letter case.
     pub const DEC: u32 = 2;
     /// `%`.
     pub const BIN: u32 = 3;

@@ -135,7 +135,7 @@ pub enum Refusal {
     NoRoomForRequests(usize),
     /// 9: a value above [`MAX_VALUE`].
     ValueTooLarge,
-    /// 10: anything but `true`, `false` or one or more digits of the base.
+    /// 10: anything but `true` and `false`, in any letter case, or one or more digits of the base.
     NotANumber,
     /// 11: the first place that starts no item of trivia.
     NoItem(usize),
@@ -246,7 +246,8 @@ pub fn read(
 }
 
 /// The value of a number's text: the body of a row of kind [`kind::NUMBER_TEXT`], lent as it stands in the text that was read,
-/// `&text[low..high]`. The outcome depends on these bytes and the type alone, at any length. Refusals 10, then 9.
+/// `&text[low..high]`. The outcome depends on these bytes and the type alone, at any length. `true` is 1 and `false` is 0, in any letter case.
+/// Refusals 10, then 9.
 pub fn value(number_type: NumberType, text: &[u8]) -> Result<u64, Refusal> {
     let mut value = 0;
     // SAFETY: as in `read`.
@@ -350,7 +351,7 @@ mod tests {
     #[test]
     fn no_such_type() {
         for number_type in [0, 4, u32::MAX] {
-            for text in [&b"1"[..], b"true", b"false", b"", b"x"] {
+            for text in [&b"1"[..], b"true", b"false", b"TRUE", b"", b"x"] {
                 let mut value = 7;
                 // SAFETY: as in `read`.
                 let code = unsafe {

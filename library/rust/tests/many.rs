@@ -23,9 +23,9 @@ impl Rng {
     }
 }
 
-/// Number::value of the Rust: the words, then from_str_radix. A sign is no digit here.
+/// Number::value of the Rust: the words, then from_str_radix. Here the words are taken in any letter case, and a sign is no digit.
 fn rust_value(radix: u32, text: &str) -> Result<u64, Refusal> {
-    match text {
+    match text.to_ascii_lowercase().as_str() {
         "true" => return Ok(1),
         "false" => return Ok(0),
         _ => (),
@@ -62,6 +62,8 @@ fn values() {
         "8",
         "true",
         "false",
+        "TRUE",
+        "False",
         "T",
         "-",
         "+",

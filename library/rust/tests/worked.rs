@@ -246,7 +246,9 @@ fn values() {
     assert_eq!(value(Bin, b"1010"), Ok(10));
     assert_eq!(value(Bin, b"true"), Ok(1));
     assert_eq!(value(Dec, b"false"), Ok(0));
-    assert_eq!(value(Dec, b"TRUE"), Err(Refusal::NotANumber));
+    assert_eq!(value(Dec, b"TRUE"), Ok(1));
+    assert_eq!(value(Hex, b"False"), Ok(0));
+    assert_eq!(value(Dec, b"TRUEX"), Err(Refusal::NotANumber));
     assert_eq!(value(Dec, b""), Err(Refusal::NotANumber));
     assert_eq!(value(Dec, b"+1"), Err(Refusal::NotANumber));
     assert_eq!(
