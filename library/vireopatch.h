@@ -312,8 +312,8 @@ uint32_t vireopatch_read(
  *
  * The outcome depends on number_type and these bytes alone, and zeros before one or more digits change nothing: 65,535 zeros and a 1 are 1.
  *
- * `true` is 1 and `false` is 0, in any letter case and for each number_type. Hexadecimal digits may be of either case too. There is no sign.
- * Where number_type is none of VIREOPATCH_NUMBER_.., no text is a number, `true` and `false` neither: 10.
+ * `true` is 1 and `false` is 0, in any letter case and in each of the three types. Hexadecimal digits may be of either case too. There is no
+ * sign. Where number_type is none of VIREOPATCH_NUMBER_.., no text is a number, `true` and `false` neither: 10.
  *
  * Returns 0, or the first of these that applies: 10, 9. Each gives 0.
  */

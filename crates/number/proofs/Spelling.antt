@@ -7,6 +7,7 @@ use native.Mathlib.Omega.{arith}
 use borrow.Author.Tests.{le-leb, eqb-true, eqb-false, eq-eqb, ne-eqb}
 use lib.Dec.{eqb}
 use lib.ListN.{length}
+use Rattle.reading.proofs.Bool.{neither}
 use Rattle.reading.specs.Byte.{bytes, within, lower}
 use Rattle.reading.specs.Table.{Answer, answered, refused}
 use Rattle.reading.specs.Number.{Base, same, lowered, digits, number-value, value-before}
@@ -108,27 +109,21 @@ module _ (x : Base) (t : List ℕ) where
   none-before e f d = rw e (rw f (rw d refl))
 
   -- a new spelling was refused with 10, and has a value
-  changed : {P : Type 0} → among t new-spellings ≡ true → ((v : ℕ) → value-before x t ≡ refused 10 0 → number-value x t ≡ answered v → P) → P
-  changed {P} h k = go (among t trues) refl
+  changed : among t new-spellings ≡ true → (value-before x t ≡ refused 10 0) × (v : ℕ) × (number-value x t ≡ answered v)
+  changed h = go (among t trues) refl
     where
-      go : (y : Bool) → among t trues ≡ y → P
+      go : (y : Bool) → among t trues ≡ y → (value-before x t ≡ refused 10 0) × (v : ℕ) × (number-value x t ≡ answered v)
       go true e =
           let s : same (lowered t) (bytes "true") ≡ true = is-new t (bytes "true") refl refl e in
-          k 1
-          (none-before
-          (unlike (λ u. among u trues) t (bytes "true") e refl)
-          (unlike (λ u. same (lowered u) (bytes "true")) t (bytes "false") s refl)
-          (no-digits x t (bytes "true") s (true-digits x)))
-          (value-true s)
+          let p = unlike (λ u. among u trues) t (bytes "true") e refl in
+          let q = unlike (λ u. same (lowered u) (bytes "true")) t (bytes "false") s refl in
+          (none-before p q (no-digits x t (bytes "true") s (true-digits x)), 1, value-true s)
       go false e =
           let f : among t falses ≡ true = sym (ap (λ y. y || among t falses) e) ∙ (sym (either-word t) ∙ h) in
           let s : same (lowered t) (bytes "false") ≡ true = is-new t (bytes "false") refl refl f in
-          k 0
-          (none-before
-          (unlike (λ u. same (lowered u) (bytes "false")) t (bytes "true") s refl)
-          (unlike (λ u. among u falses) t (bytes "false") f refl)
-          (no-digits x t (bytes "false") s (false-digits x)))
-          (value-false s)
+          let p = unlike (λ u. same (lowered u) (bytes "false")) t (bytes "true") s refl in
+          let q = unlike (λ u. among u falses) t (bytes "false") f refl in
+          (none-before p q (no-digits x t (bytes "false") s (false-digits x)), 0, value-false s)
 
   -- every other text keeps its outcome
   others : among t new-spellings ≡ false → number-value x t ≡ value-before x t
@@ -136,34 +131,25 @@ module _ (x : Base) (t : List ℕ) where
   others h =
       let p = neither (among t trues) (among t falses) (sym (either-word t) ∙ h) in
       words x t (is-old t (bytes "true") refl refl (p .0)) (is-old t (bytes "false") refl refl (p .1))
-    where
-      neither : (a b : Bool) → a || b ≡ false → (a ≡ false) × (b ≡ false)
-      neither true b e = absurd (true≢false e)
-      neither false b e = (refl, e)
 
   kept : (v : ℕ) → value-before x t ≡ answered v → number-value x t ≡ answered v
   kept v e = go (among t new-spellings) refl
     where
       go : (y : Bool) → among t new-spellings ≡ y → number-value x t ≡ answered v
-      go true h = changed h λ w f g. cc
+      go true h = let f : value-before x t ≡ refused 10 0 = changed h .0 in cc
       go false h = others h ∙ e
 
 -- A call ----------------------------------------------------------------------
 
--- of whatever a caller sees of an answer, if it can tell a value from refusal 10
-module _ {R : Type 0} (seen : Answer ℕ → R) (tells : (v : ℕ) → seen (answered v) ≡ seen (refused 10 0) → ⊥) where
-  pub amended : (x : Base) (t : List ℕ) (r : R) → r ≡ seen (number-value x t) → Amended seen x t r
-  amended x t r m =
-      record {
-        true-one = λ h. m ∙ ap seen (value-true x t (sym (spelled (bytes "true") t refl) ∙ h));
-        false-zero = λ h. m ∙ ap seen (value-false x t (sym (spelled (bytes "false") t refl) ∙ h));
-        kept = λ v e. m ∙ ap seen (kept x t v e);
-        changed = λ h. changed x t h λ v b a. (b, λ e. tells v (sym (ap seen a) ∙ (sym m ∙ e)));
-        others = λ h. m ∙ ap seen (others x t h);
-      }
+pub amended : {R : Type 0} (seen : Answer ℕ → R) (x : Base) (t : List ℕ) (r : R) → r ≡ seen (number-value x t) → Amended seen x t r
+amended seen x t r m =
+    record {
+      true-one = λ h. m ∙ ap seen (value-true x t (sym (spelled (bytes "true") t refl) ∙ h));
+      false-zero = λ h. m ∙ ap seen (value-false x t (sym (spelled (bytes "false") t refl) ∙ h));
+      kept = λ v e. m ∙ ap seen (kept x t v e);
+      changed = λ h. let c = changed x t h in (c .0, c .1, m ∙ ap seen (c .2));
+      others = λ h. m ∙ ap seen (others x t h);
+    }
 
 pub value-amended : (ty : NumberType) (t : List ℕ) (r : Valued) → told r ≡ number-value (base-of ty) t → Amended (λ a. a) (base-of ty) t (told r)
-value-amended ty t r m = amended (λ a. a) no (base-of ty) t (told r) m
-  where
-    no : (v : ℕ) → answered v ≡ refused 10 0 → ⊥
-    no v e = true≢false (ap (λ (a : Answer ℕ). elim a [ answered v ↦ true | refused n g ↦ false ]) e)
+value-amended ty t r m = amended (λ a. a) (base-of ty) t (told r) m

@@ -2,7 +2,7 @@
 use mathlib.Core.Path.{_≡_, refl, ap, ap₂, sym, _∙_}
 use mathlib.Core.Bool.{Bool, true, false, _&&_, cond, and-false, Bool·beq}
 use mathlib.Core.List.{List, [], _∷_}
-use Prim.Native.Nat.{ℕ, suc, _+_, _<_}
+use Prim.Native.Nat.{ℕ, suc, _+_, _≤_, _<_}
 use native.Mathlib.Omega.{arith}
 use borrow.Author.Tests.{eqb-true, eqb-false, eq-eqb, ne-eqb}
 use lib.Dec.{eqb}
@@ -20,14 +20,14 @@ eqb-sym a b = go (eqb a b) refl
     go true e = e ∙ sym (eq-eqb b a (sym (eqb-true a b e)))
     go false e = e ∙ sym (ne-eqb b a λ h. eqb-false a b e (sym h))
 
--- a text as long as the word begins with it if it is the word
-pub whole : (w t : List ℕ) → length t ≡ length w → begins-no-case w t ≡ same (lowered t) w
-whole [] [] e = refl
-whole [] (b ∷ t) e = absurd (let z : ⊥ = omega (arith, e) in z)
-whole (a ∷ w) [] e = absurd (let z : ⊥ = omega (arith, e) in z)
-whole (a ∷ w) (b ∷ t) e =
+-- a text no longer than the word begins with it if it is the word
+pub whole : (w t : List ℕ) → length t ≤ length w → begins-no-case w t ≡ same (lowered t) w
+whole [] [] h = refl
+whole [] (b ∷ t) h = absurd (let z : ⊥ = omega (arith, h) in z)
+whole (a ∷ w) [] h = refl
+whole (a ∷ w) (b ∷ t) h =
     begins-no-case-at a w (b ∷ t) 0 (omega arith)
-    ∙ ap₂ _&&_ (eqb-sym a (lower b)) (whole w t (let z : length t ≡ length w = omega (arith, e) in z))
+    ∙ ap₂ _&&_ (eqb-sym a (lower b)) (whole w t (let z : length t ≤ length w = omega (arith, h) in z))
 
 -- a text of another length is not
 pub lengths : (w t : List ℕ) → (length t ≡ length w → ⊥) → same (lowered t) w ≡ false

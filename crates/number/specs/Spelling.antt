@@ -44,7 +44,7 @@ pub record Amended {R : Type 0} (seen : Answer ℕ → R) (x : Base) (t : List �
   pub false-zero : among t (spellings (bytes "false")) ≡ true → r ≡ seen (answered 0)
   -- "texts that had a value keep it"
   pub kept : (v : ℕ) → value-before x t ≡ answered v → r ≡ seen (answered v)
-  -- "10 no longer covers these spellings": each of them was refused with 10 and is not any more
-  pub changed : among t new-spellings ≡ true → (value-before x t ≡ refused 10 0) × (r ≡ seen (refused 10 0) → ⊥)
+  -- "10 no longer covers these spellings": each of them was refused with 10, and has a value
+  pub changed : among t new-spellings ≡ true → (value-before x t ≡ refused 10 0) × (v : ℕ) × (r ≡ seen (answered v))
   -- and every other text has the outcome it had: one whose outcome changed is one of them
   pub others : among t new-spellings ≡ false → r ≡ seen (value-before x t)

@@ -1,6 +1,6 @@
 -- Booleans: the small facts that the other laws share.
 use mathlib.Core.Path.{_≡_, refl}
-use mathlib.Core.Bool.{Bool, true, false, _&&_, _||_}
+use mathlib.Core.Bool.{Bool, true, false, _&&_, _||_, true≢false}
 use lib.Dec.{T}
 
 pub and-left : (a b : Bool) → T (a && b) → T a
@@ -23,3 +23,7 @@ or-and-right false a b t = and-right a b t
 pub or-same : (b : Bool) → b || b ≡ b
 or-same true = refl
 or-same false = refl
+
+pub neither : (a b : Bool) → a || b ≡ false → (a ≡ false) × (b ≡ false)
+neither true b e = absurd (true≢false e)
+neither false b e = (refl, e)

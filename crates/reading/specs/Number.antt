@@ -1,6 +1,6 @@
 -- Number::value: the value of a number's text in the base of its type.
 use mathlib.Core.Bool.{Bool, true, false, _&&_, cond, not}
-use mathlib.Core.List.{List, [], _∷_}
+use mathlib.Core.List.{List, [], _∷_, map}
 use Prim.Native.Nat.{ℕ, _+_, _*_, _-_}
 use lib.Dec.{ltb, eqb}
 use Rattle.reading.specs.Byte.{bytes, digit, hex-digit, binary-digit, lower}
@@ -51,8 +51,7 @@ digits-value x t =
 
 -- the letters in lower case
 abbrev pub lowered : List ℕ → List ℕ
-lowered [] = []
-lowered (b ∷ t) = lower b ∷ lowered t
+lowered t = map lower t
 
 -- the words first, as the Rust has it, but in any letter case
 unfoldable pub number-value : Base → List ℕ → Answer ℕ

@@ -11,9 +11,10 @@ use borrow.Author.Tests.{ltb-true, ltb-false}
 use lib.Dec.{eqb, ltb}
 use lib.ListN.{length, getD, drop}
 use lib.Seq.{getD-drop}
+use Rattle.reading.proofs.Bool.{neither}
 use Rattle.reading.specs.Byte.{comment, plus, run}
 use Rattle.cursor.proofs.Places.{run-go}
-use Rattle.trivia.proofs.Marks.{neither, left-step, left-on}
+use Rattle.trivia.proofs.Marks.{left-step, left-on}
 use Rattle.trivia.specs.Class.{in-line}
 use Rattle.trivia.specs.Piece.{close-of, closed, closes-at, either-at, Clear, left, Unmarked}
 use Rattle.trivia.specs.declared.Close.{Close}

@@ -8,6 +8,7 @@ use native.Mathlib.Numerals.{add-one}
 use native.Mathlib.Omega.{arith}
 use lib.ListN.{length, getD, drop, drop-of-length-le}
 use lib.Dec.{eqb}
+use Rattle.reading.proofs.Bool.{neither}
 use Rattle.reading.specs.Byte.{comment, plus}
 use Rattle.cursor.proofs.Places.{cons}
 use Rattle.trivia.specs.Piece.{close-of, closed, left}
@@ -29,10 +30,6 @@ left-end s d p i h = ap (λ t. close-of i (comment d p t)) (drop-of-length-le s 
 pub left-step : (s : List ℕ) (d i : ℕ) → i < length s → left s d 0 i ≡ left s d (getD s i 0) (i + 1)
 unfolding left
 left-step s d i h = ap (λ t. close-of i (comment d 0 t)) (cons s i h) ∙ close-plus i 1 (comment d (getD s i 0) (drop (i + 1) s))
-
-pub neither : (a b : Bool) → a || b ≡ false → (a ≡ false) × (b ≡ false)
-neither true b e = absurd (let z : _≡_ {A = ℕ} 0 1 = cc in let y : ⊥ = omega arith in y)
-neither false b e = (refl, e)
 
 -- the comment from the byte c on: x, c closes a mark; y, it opens one
 abbrev pair : ℕ → ℕ → List ℕ → Bool → Bool → Option ℕ

@@ -7,7 +7,7 @@ use borrow.Author.Tests.{leb-false}
 use lib.ListN.{length, drop}
 use Rattle.reading.specs.Table.{first-high}
 use Rattle.trivia.proofs.Highs.{high-none, high-on}
-use Rattle.trivia.proofs.Marks.{neither}
+use Rattle.reading.proofs.Bool.{neither}
 use Rattle.trivia.proofs.any_high.Statement.{statement}
 use Rattle.trivia.proofs.any_high.Tie as tie
 
