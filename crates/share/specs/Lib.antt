@@ -1,0 +1,4 @@
+pub mod Shares
+pub mod Words
+pub mod Steps
+pub mod Answers
