@@ -24,12 +24,21 @@ use Rattle.trivia.specs.declared.ItemsAnswer.the-variants.{Count, TooLong as to
 use Rattle.table.specs.Answers.{told as walk-told}
 use Rattle.table.specs.declared.Walked.{Walked}
 use Rattle.table.specs.declared.Walked.the-variants.{Subtree as subtree, NoSubtree}
-use Rattle.vireopatch.specs.Seen.{Seen, seen, exported, base-numbered, value-in, seen-value, exported-value, SeenItems, seen-items, exported-items, SeenWalk, seen-walk, exported-walk}
-use Rattle.vireopatch.specs.Numbers.{numbered, numbered-value, numbered-items, numbered-walk}
+use Rattle.share.specs.Answers.{told as shares-told, told-text, told-words}
+use Rattle.share.specs.Shares.{Shares}
+use Rattle.share.specs.Words.{Told}
+use Rattle.share.specs.declared.SharesAnswer.{SharesAnswer}
+use Rattle.share.specs.declared.SharesAnswer.the-variants.{Found, TooManyTexts, WrongText}
+use Rattle.share.specs.declared.TextAnswer.{TextAnswer}
+use Rattle.share.specs.declared.TextAnswer.the-variants.{Words, NoSubtree as no-subtree, NoRoom as no-room, WrongText as wrong-text}
+use Rattle.vireopatch.specs.Seen.{Seen, seen, exported, base-numbered, value-in, seen-value, exported-value, SeenItems, seen-items, exported-items, SeenWalk, seen-walk, exported-walk, SeenShares, seen-shares, exported-shares, SeenWords, seen-words, exported-words}
+use Rattle.vireopatch.specs.Numbers.{numbered, numbered-value, numbered-items, numbered-walk, numbered-shares, numbered-words}
 use Rattle.vireopatch.specs.declared.ReadNumbers.{ReadNumbers}
 use Rattle.vireopatch.specs.declared.ValueNumbers.{ValueNumbers}
 use Rattle.vireopatch.specs.declared.ItemNumbers.{ItemNumbers}
 use Rattle.vireopatch.specs.declared.WalkNumbers.{WalkNumbers}
+use Rattle.vireopatch.specs.declared.SharesNumbers.{SharesNumbers}
+use Rattle.vireopatch.specs.declared.WordsNumbers.{WordsNumbers}
 
 -- Reading a text ------------------------------------------------------------
 
@@ -108,3 +117,34 @@ walk-numbers-shown (NoSubtree n) = refl
 pub walk-shown : (r : Walked) (a : Answered Subtree) (x : WalkNumbers) → walk-told r ≡ a → x ≡ numbered-walk r
     → seen-walk (x .code) (x .root) (x .before) (x .given) ≡ exported-walk a
 walk-shown r a x h g = ap (λ (y : WalkNumbers). walk-seen y) g ∙ (walk-numbers-shown r ∙ ap exported-walk h)
+
+-- Shares of trivia ----------------------------------------------------------
+
+abbrev shares-seen : SharesNumbers → SeenShares
+shares-seen x = seen-shares (x .code) (x .numerator) (x .denominator) (x .count) (x .first) (x .second) (x .third) (x .given)
+
+shares-numbers-shown : (r : SharesAnswer) → shares-seen (numbered-shares r) ≡ exported-shares (shares-told r)
+unfolding exported-shares
+shares-numbers-shown (Found x) = refl
+shares-numbers-shown (TooManyTexts n) = refl
+shares-numbers-shown (WrongText i) = refl
+
+pub shares-shown : (r : SharesAnswer) (a : Answered Shares) (x : SharesNumbers) → shares-told r ≡ a → x ≡ numbered-shares r
+    → seen-shares (x .code) (x .numerator) (x .denominator) (x .count) (x .first) (x .second) (x .third) (x .given) ≡ exported-shares a
+shares-shown r a x h g = ap (λ (y : SharesNumbers). shares-seen y) g ∙ (shares-numbers-shown r ∙ ap exported-shares h)
+
+-- The two words of a text ---------------------------------------------------
+
+abbrev words-seen : WordsNumbers → List ℕ → SeenWords
+words-seen x t = seen-words (x .code) t (x .trivia) (x .length) (x .given)
+
+words-numbers-shown : (r : TextAnswer) (t : List ℕ) → words-seen (numbered-words r) t ≡ exported-words (told-words r t)
+unfolding exported-words
+words-numbers-shown (Words x) t = refl
+words-numbers-shown (no-subtree n) t = refl
+words-numbers-shown (no-room n) t = refl
+words-numbers-shown wrong-text t = refl
+
+pub words-shown : (r : TextAnswer) (t : List ℕ) (o : Told) (x : WordsNumbers) → told-words r t ≡ o → x ≡ numbered-words r
+    → seen-words (x .code) t (x .trivia) (x .length) (x .given) ≡ exported-words o
+words-shown r t o x h g = ap (λ (y : WordsNumbers). words-seen y t) g ∙ (words-numbers-shown r t ∙ ap exported-words h)

@@ -9,10 +9,16 @@ use Rattle.trivia.specs.declared.ItemsAnswer.{ItemsAnswer}
 use Rattle.trivia.specs.declared.ItemsAnswer.the-variants.{Count, TooLong as too-long, HighByte as high-byte, NoItem, NoRoom}
 use Rattle.table.specs.declared.Walked.{Walked}
 use Rattle.table.specs.declared.Walked.the-variants.{Subtree, NoSubtree}
+use Rattle.share.specs.declared.SharesAnswer.{SharesAnswer}
+use Rattle.share.specs.declared.SharesAnswer.the-variants.{Found, TooManyTexts, WrongText}
+use Rattle.share.specs.declared.TextAnswer.{TextAnswer}
+use Rattle.share.specs.declared.TextAnswer.the-variants.{Words, NoSubtree as no-subtree, NoRoom as no-room, WrongText as wrong-text}
 use Rattle.vireopatch.specs.declared.ReadNumbers.{ReadNumbers}
 use Rattle.vireopatch.specs.declared.ValueNumbers.{ValueNumbers}
 use Rattle.vireopatch.specs.declared.ItemNumbers.{ItemNumbers}
 use Rattle.vireopatch.specs.declared.WalkNumbers.{WalkNumbers}
+use Rattle.vireopatch.specs.declared.SharesNumbers.{SharesNumbers}
+use Rattle.vireopatch.specs.declared.WordsNumbers.{WordsNumbers}
 
 -- a refusal: no records, and the end state is the starting state
 abbrev pub no-reading : ℕ → ℕ → ℕ → Bool → ReadNumbers
@@ -45,3 +51,30 @@ numbered-items (NoRoom g) = record { code = 12; count = 0; given = g }
 abbrev pub numbered-walk : Walked → WalkNumbers
 numbered-walk (Subtree x n) = record { code = 0; root = x .0; before = n; given = 0 }
 numbered-walk (NoSubtree g) = record { code = 13; root = 0; before = 0; given = g }
+
+abbrev pub no-shares : ℕ → ℕ → SharesNumbers
+no-shares c g = record { code = c; numerator = 0; denominator = 0; count = 0; first = 0; second = 0; third = 0; given = g }
+
+abbrev pub numbered-shares : SharesAnswer → SharesNumbers
+numbered-shares (Found x) =
+    record {
+      code = 0;
+      numerator = x .numerator;
+      denominator = x .denominator;
+      count = x .count;
+      first = x .first;
+      second = x .second;
+      third = x .third;
+      given = 0;
+    }
+numbered-shares (TooManyTexts g) = no-shares 27 g
+numbered-shares (WrongText g) = no-shares 28 g
+
+abbrev pub no-words : ℕ → ℕ → WordsNumbers
+no-words c g = record { code = c; trivia = 0; length = 0; given = g }
+
+abbrev pub numbered-words : TextAnswer → WordsNumbers
+numbered-words (Words x) = record { code = 0; trivia = x .trivia; length = x .length; given = 0 }
+numbered-words (no-subtree g) = no-words 13 g
+numbered-words (no-room g) = no-words 6 g
+numbered-words wrong-text = no-words 28 0

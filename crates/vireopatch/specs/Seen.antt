@@ -7,6 +7,8 @@ use Rattle.reading.specs.Table.{Answer, answered, refused}
 use Rattle.reading.specs.Number.{Base, number-value}
 use Rattle.reading.specs.Items.{Listed}
 use Rattle.reading.specs.Walk.{Subtree}
+use Rattle.share.specs.Shares.{Shares}
+use Rattle.share.specs.Words.{Text, Told}
 pub use Rattle.parser.specs.Seen.{code-of, given-of, counts-of, Seen, seen}
 unfoldable pub use Rattle.parser.specs.Seen.{exported}
 unfoldable pub use Rattle.number.specs.Answers.{base-numbered}
@@ -70,3 +72,63 @@ subtree-of (refused n g) = record { root = 0; before = 0 }
 
 unfoldable pub exported-walk : Answer Subtree → SeenWalk
 exported-walk a = record { code = code-of a; root = subtree-of a .root; before = subtree-of a .before; given = given-of a }
+
+-- Shares of trivia ----------------------------------------------------------
+
+pub record SeenShares : Type 0 where
+  pub code : ℕ
+  pub numerator : ℕ
+  pub denominator : ℕ
+  pub count : ℕ
+  pub first : ℕ
+  pub second : ℕ
+  pub third : ℕ
+  pub given : ℕ
+
+abbrev pub seen-shares : ℕ → ℕ → ℕ → ℕ → ℕ → ℕ → ℕ → ℕ → SeenShares
+seen-shares r p q n a b c g = record { code = r; numerator = p; denominator = q; count = n; first = a; second = b; third = c; given = g }
+
+-- a refusal has zeros for all of them
+abbrev pub shares-of : Answer Shares → Shares
+shares-of (answered x) = x
+shares-of (refused n g) = record { numerator = 0; denominator = 0; count = 0; first = 0; second = 0; third = 0 }
+
+unfoldable pub exported-shares : Answer Shares → SeenShares
+exported-shares a =
+    record {
+      code = code-of a;
+      numerator = shares-of a .numerator;
+      denominator = shares-of a .denominator;
+      count = shares-of a .count;
+      first = shares-of a .first;
+      second = shares-of a .second;
+      third = shares-of a .third;
+      given = given-of a;
+    }
+
+-- The two words of a text ---------------------------------------------------
+
+pub record SeenWords : Type 0 where
+  pub code : ℕ
+  pub roots : List ℕ
+  pub trivia : ℕ
+  pub length : ℕ
+  pub given : ℕ
+
+abbrev pub seen-words : ℕ → List ℕ → ℕ → ℕ → ℕ → SeenWords
+seen-words r t a l g = record { code = r; roots = t; trivia = a; length = l; given = g }
+
+-- a refusal has no words
+abbrev pub text-of : Answer Text → Text
+text-of (answered x) = x
+text-of (refused n g) = record { trivia = 0; length = 0 }
+
+unfoldable pub exported-words : Told → SeenWords
+exported-words x =
+    record {
+      code = code-of (x .answer);
+      roots = x .table;
+      trivia = text-of (x .answer) .trivia;
+      length = text-of (x .answer) .length;
+      given = given-of (x .answer);
+    }

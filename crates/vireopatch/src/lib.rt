@@ -3,6 +3,8 @@
 use number::Typed;
 use number::Valued;
 use parser::Answer;
+use share::SharesAnswer;
+use share::TextAnswer;
 use table::Walked;
 use trivia::ItemsAnswer;
 ghost use mathlib.Core.Path.{_≡_};
@@ -10,8 +12,10 @@ ghost use Rattle.reading.specs.Items.{trivia-items};
 ghost use Rattle.reading.specs.Outcome.{outcome};
 ghost use Rattle.reading.specs.Walk.{walk};
 ghost use Rattle.parser.specs.Answers.{call};
-ghost use Rattle.vireopatch.specs.Seen.{seen, exported, base-numbered, value-in, seen-value, exported-value, seen-items, exported-items, seen-walk, exported-walk};
-ghost use Rattle.vireopatch.specs.Numbers.{no-reading, numbered, numbered-value, numbered-items, numbered-walk};
+ghost use Rattle.share.specs.Shares.{shares};
+ghost use Rattle.share.specs.Words.{text-words};
+ghost use Rattle.vireopatch.specs.Seen.{seen, exported, base-numbered, value-in, seen-value, exported-value, seen-items, exported-items, seen-walk, exported-walk, seen-shares, exported-shares, seen-words, exported-words};
+ghost use Rattle.vireopatch.specs.Numbers.{no-reading, numbered, numbered-value, numbered-items, numbered-walk, no-shares, numbered-shares, no-words, numbered-words};
 
 struct ReadNumbers {
     code: u32,
@@ -219,6 +223,132 @@ pub extern "C" fn vireopatch_walk(
     let n = walk_numbers_of(walked);
     *root = n.root;
     *before = n.before;
+    *given = n.given;
+    n.code
+}
+
+struct SharesNumbers {
+    code: u32,
+    numerator: u64,
+    denominator: u64,
+    count: usize,
+    first: usize,
+    second: usize,
+    third: usize,
+    given: usize,
+}
+
+fn no_shares(code: u32, given: usize) -> SharesNumbers
+    ensures { λ r. ⌜ r ≡ no-shares code given ⌝ }
+{
+    SharesNumbers {
+        code,
+        numerator: 0,
+        denominator: 0,
+        count: 0,
+        first: 0,
+        second: 0,
+        third: 0,
+        given,
+    }
+}
+
+fn shares_numbers_of(answer: SharesAnswer) -> SharesNumbers
+    ensures { λ r. ⌜ r ≡ numbered-shares answer ⌝ }
+{
+    match answer {
+        SharesAnswer::Found(x) => SharesNumbers {
+            code: 0,
+            numerator: x.numerator,
+            denominator: x.denominator,
+            count: x.count,
+            first: x.first,
+            second: x.second,
+            third: x.third,
+            given: 0,
+        },
+        SharesAnswer::TooManyTexts(n) => no_shares(27, n),
+        SharesAnswer::WrongText(i) => no_shares(28, i),
+    }
+}
+
+// The share of trivia of up to 1,000 texts, and the three largest: refusals 27 and 28.
+#[no_mangle]
+pub extern "C" fn vireopatch_shares(
+    words: &[u32],
+    numerator: &mut u64,
+    denominator: &mut u64,
+    count: &mut usize,
+    first: &mut usize,
+    second: &mut usize,
+    third: &mut usize,
+    given: &mut usize,
+) -> u32
+    ensures { λ r. ⌜ seen-shares r (now (numerator .exit)) (now (denominator .exit)) (now (count .exit)) (now (first .exit)) (now (second .exit)) (now (third .exit)) (now (given .exit)) ≡ exported-shares (shares (now (words .entry))) ⌝ }
+{
+    let answer = share::shares(words);
+    let n = shares_numbers_of(answer);
+    *numerator = n.numerator;
+    *denominator = n.denominator;
+    *count = n.count;
+    *first = n.first;
+    *second = n.second;
+    *third = n.third;
+    *given = n.given;
+    n.code
+}
+
+struct WordsNumbers {
+    code: u32,
+    trivia: u32,
+    length: u32,
+    given: usize,
+}
+
+fn no_words(code: u32, given: usize) -> WordsNumbers
+    ensures { λ r. ⌜ r ≡ no-words code given ⌝ }
+{
+    WordsNumbers {
+        code,
+        trivia: 0,
+        length: 0,
+        given,
+    }
+}
+
+fn words_numbers_of(answer: TextAnswer) -> WordsNumbers
+    ensures { λ r. ⌜ r ≡ numbered-words answer ⌝ }
+{
+    match answer {
+        TextAnswer::Words(x) => WordsNumbers {
+            code: 0,
+            trivia: x.trivia,
+            length: x.length,
+            given: 0,
+        },
+        TextAnswer::NoSubtree(n) => no_words(13, n),
+        TextAnswer::NoRoom(n) => no_words(6, n),
+        TextAnswer::WrongText => no_words(28, 0),
+    }
+}
+
+// The two words of a text for `vireopatch_shares`, from its reading: refusals 13, 6 and 28.
+#[no_mangle]
+pub extern "C" fn vireopatch_text_words(
+    text: &[u8],
+    rows: &[u32],
+    count: usize,
+    roots: &mut [usize],
+    trivia: &mut u32,
+    length: &mut u32,
+    given: &mut usize,
+) -> u32
+    ensures { λ r. ⌜ seen-words r (now (roots .exit)) (now (trivia .exit)) (now (length .exit)) (now (given .exit)) ≡ exported-words (text-words (now (text .entry)) (now (rows .entry)) count (now (roots .entry))) ⌝ }
+{
+    let answer = share::text_words(text, rows, count, roots);
+    let n = words_numbers_of(answer);
+    *trivia = n.trivia;
+    *length = n.length;
     *given = n.given;
     n.code
 }

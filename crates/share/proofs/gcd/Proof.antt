@@ -4,8 +4,6 @@ use native.Mathlib.Nat.{mod-lt}
 use Rattle.share.proofs.Divisors.{Gcd, Common, common-turned, common-step, common-end, gcd-is, gcd-positive}
 use Rattle.share.proofs.gcd.Statement.{statement}
 use Rattle.share.proofs.gcd.Tie as tie
-use Rattle.share.proofs.gcd.Reads as reads
-use Rattle.share.proofs.gcd.Lts as lts
 
 abbrev Inv-loop : tie.InvT-loop
 Inv-loop a b x₀ y₀ x y = Common a b x y
@@ -13,23 +11,18 @@ Inv-loop a b x₀ y₀ x y = Common a b x y
 abbrev μ-loop : tie.MeasureT-loop
 μ-loop a b x₀ y₀ x y = y
 
--- src/lib.rt:105:5
 loop-holds : tie.Need-loop-holds Inv-loop μ-loop
 loop-holds c = common-turned _ _
 
--- src/lib.rt:106:20
 rem-rest : tie.Need-rem-rest Inv-loop μ-loop
 rem-rest c = omega arith
 
--- src/lib.rt:105:5
 loop-less : tie.Need-loop-less Inv-loop μ-loop
 loop-less c = mod-lt _ (c .loop-test .taken)
 
--- src/lib.rt:105:5
 loop-again : tie.Need-loop-again Inv-loop μ-loop
 loop-again c = common-step (c .before .loop .inv)
 
--- src/lib.rt:99:1
 returns : tie.Need-returns Inv-loop μ-loop
 returns c =
     let u : Gcd (c .before .before .args .a) (c .before .before .args .b) (c .before .loop .x) = common-end (omega (arith, c .loop-test .left)) (c .before .loop .inv) in

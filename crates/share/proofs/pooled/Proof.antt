@@ -6,9 +6,6 @@ use Rattle.share.specs.Shares.{sum, word-of}
 use Rattle.share.proofs.Pool.{sum-none, sum-next, sum-all}
 use Rattle.share.proofs.pooled.Statement.{statement}
 use Rattle.share.proofs.pooled.Tie as tie
-use Rattle.share.proofs.pooled.Reads as reads
-use Rattle.share.proofs.pooled.Lts as lts
-use Rattle.share.proofs.word.Reads as word-reads
 
 abbrev Inv-loop : tie.InvT-loop
 Inv-loop words column n total₀ i₀ total i = (i ≤ n) × (total ≡ sum (word-of words column) i) × (total ≤ i * 4294967296)
@@ -16,27 +13,21 @@ Inv-loop words column n total₀ i₀ total i = (i ≤ n) × (total ≡ sum (wor
 abbrev μ-loop : tie.MeasureT-loop
 μ-loop words column n total₀ i₀ total i = n - i
 
--- src/lib.rt:91:5
 loop-holds : tie.Need-loop-holds Inv-loop μ-loop
 loop-holds c = (omega arith, sym (sum-none _), omega arith)
 
--- src/lib.rt:92:18
 word-requires : tie.Need-word-requires Inv-loop μ-loop
 word-requires c κs = (c .before .before .before .pre .0, omega (arith, c .before .before .before .pre .1))
 
--- src/lib.rt:92:9
 add-total : tie.Need-add-total Inv-loop μ-loop
 add-total c = omega (arith, c .before .before .loop .inv .2, c .word .ensures .1, c .before .before .before .before .pre .2)
 
--- src/lib.rt:93:9
 add-i : tie.Need-add-i Inv-loop μ-loop
 add-i c = omega (arith, c .before .before .before .before .pre .2)
 
--- src/lib.rt:91:5
 loop-less : tie.Need-loop-less Inv-loop μ-loop
 loop-less c = omega arith
 
--- src/lib.rt:91:5
 loop-again : tie.Need-loop-again Inv-loop μ-loop
 loop-again c = (
   omega arith,
@@ -44,7 +35,6 @@ loop-again c = (
   omega (arith, c .before .before .loop .inv .2, c .word .ensures .1),
 )
 
--- src/lib.rt:85:1
 returns : tie.Need-returns Inv-loop μ-loop
 returns c = sum-all _ _ _ _ (c .before .loop .inv .1) (c .before .loop .inv .0) (c .loop-test .left)
 

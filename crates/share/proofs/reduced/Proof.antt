@@ -2,27 +2,19 @@ use borrow.Author.Needs.{needs}
 use Rattle.share.proofs.Divisors.{share-none, share-some, some-left}
 use Rattle.share.proofs.reduced.Statement.{statement}
 use Rattle.share.proofs.reduced.Tie as tie
-use Rattle.share.proofs.reduced.Reads as reads
-use Rattle.share.proofs.reduced.Lts as lts
-use Rattle.share.proofs.gcd.Reads as gcd-reads
 
--- src/lib.rt:115:9
 returns : tie.Need-returns
 returns c = share-none _ _ (c .if1 .taken)
 
--- src/lib.rt:120:9
 gcd-requires : tie.Need-gcd-requires
 gcd-requires c κs = some-left (c .before .args .a) (c .before .args .b) (c .if1 .left)
 
--- src/lib.rt:122:20
 div-t7 : tie.Need-div-t7
 div-t7 c = search needs
 
--- src/lib.rt:123:22
 div-t8 : tie.Need-div-t8
 div-t8 c = search needs
 
--- src/lib.rt:111:1
 returns-2 : tie.Need-returns-2
 returns-2 c = share-some _ _ _ (c .before .if1 .left) (c .gcd .ensures .0)
 

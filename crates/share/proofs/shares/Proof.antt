@@ -2,42 +2,28 @@ use borrow.Author.Needs.{needs}
 use Rattle.share.proofs.Tests.{too-many, wrong-at, none-wrong}
 use Rattle.share.proofs.shares.Statement.{statement}
 use Rattle.share.proofs.shares.Tie as tie
-use Rattle.share.proofs.shares.Reads as reads
-use Rattle.share.proofs.shares.Lts as lts
-use Rattle.share.proofs.first_wrong.Reads as first-wrong-reads
-use Rattle.share.proofs.pooled.Reads as pooled-reads
-use Rattle.share.proofs.reduced.Reads as reduced-reads
-use Rattle.share.proofs.three_largest.Reads as three-largest-reads
 
--- src/lib.rt:221:9
 returns : tie.Need-returns
 returns c = too-many _ (c .if1 .taken)
 
--- src/lib.rt:223:9
 first-wrong-requires : tie.Need-first-wrong-requires
 first-wrong-requires c κs = search needs
 
--- src/lib.rt:225:9
 returns-2 : tie.Need-returns-2
 returns-2 c = wrong-at _ (c .before .before .if1 .left) _ (c .before .first-wrong .ensures) (c .if2 .taken)
 
--- src/lib.rt:227:9
 pooled-requires : tie.Need-pooled-requires
 pooled-requires c κs = search needs
 
--- src/lib.rt:228:9
 pooled-requires-2 : tie.Need-pooled-requires-2
 pooled-requires-2 c κs = search needs
 
--- src/lib.rt:229:9
 reduced-requires : tie.Need-reduced-requires
 reduced-requires c κs = search needs
 
--- src/lib.rt:230:9
 three-largest-requires : tie.Need-three-largest-requires
 three-largest-requires c κs = search needs
 
--- src/lib.rt:216:1
 returns-3 : tie.Need-returns-3
 returns-3 c =
     none-wrong _ (c .before .before .before .before .before .before .if1 .left) _ (c .before .before .before .before .before .first-wrong .ensures) _ _ _ _ (c .before .before .before .before .if2 .left) (c .before .before .before .pooled .ensures) (c .before .before .pooled2 .ensures)

@@ -2,78 +2,57 @@ use borrow.Author.Needs.{needs}
 use Rattle.share.proofs.Words.{tops-told, tops-inside, tops-refused, too-long, too-much, words-known}
 use Rattle.share.proofs.text_words.Statement.{statement}
 use Rattle.share.proofs.text_words.Tie as tie
-use Rattle.share.proofs.text_words.Reads as reads
-use Rattle.share.proofs.text_words.Lts as lts
-use Rattle.rows.proofs.tops.Reads as tops-reads
-use Rattle.share.proofs.top_trivia.Reads as top-trivia-reads
 
--- src/lib.rt:289:9
 tops-requires : tie.Need-tops-requires
 tops-requires c κs = search needs
 
--- src/lib.rt:291:27
 enum-known-listed : tie.Need-enum-known-listed
 enum-known-listed c = search needs
 
--- src/lib.rt:292:31
 enum-known-listed-2 : tie.Need-enum-known-listed-2
 enum-known-listed-2 c = search needs
 
--- src/lib.rt:292:38
 same-length : tie.Need-same-length
 same-length c = search needs
 
--- src/lib.rt:292:38
 returns : tie.Need-returns
 returns c = tops-refused _ _ _ _ _ _ _ (tops-told _ _ _ _ (c .before .listed2 .given .1) (c .before .before .before .before .before .tops .ensures))
 
--- src/lib.rt:293:28
 enum-known-listed-3 : tie.Need-enum-known-listed-3
 enum-known-listed-3 c = search needs
 
--- src/lib.rt:293:34
 same-length-2 : tie.Need-same-length-2
 same-length-2 c = search needs
 
--- src/lib.rt:293:34
 returns-2 : tie.Need-returns-2
 returns-2 c = tops-refused _ _ _ _ _ _ _ (tops-told _ _ _ _ (c .before .listed3 .given .1) (c .before .before .before .before .before .tops .ensures))
 
--- src/lib.rt:297:9
 same-length-3 : tie.Need-same-length-3
 same-length-3 c = search needs
 
--- src/lib.rt:297:9
 returns-3 : tie.Need-returns-3
 returns-3 c = too-long _ _ _ _ _ _ (tops-told _ _ _ _ (c .before .before .listed .given .1) (c .before .before .before .before .before .before .tops .ensures)) (c .if1 .taken)
 
--- src/lib.rt:299:9
 top-trivia-requires : tie.Need-top-trivia-requires
 top-trivia-requires c κs =
     let u = tops-inside _ _ _ _ _ (tops-told _ _ _ _ (c .before .before .before .listed .given .1) (c .before .before .before .before .before .before .before .tops .ensures)) in
     (u .many, u .each, c .before .if1 .left)
 
--- src/lib.rt:301:9
 same-length-4 : tie.Need-same-length-4
 same-length-4 c = search needs
 
--- src/lib.rt:301:9
 returns-4 : tie.Need-returns-4
 returns-4 c = too-much _ _ _ _ _ _ (tops-told _ _ _ _ (c .before .before .before .before .before .listed .given .1) (c .before .before .before .before .before .before .before .before .before .tops .ensures)) _ (c .before .top-trivia .ensures) (c .if2 .taken)
 
--- src/lib.rt:304:17
 cast-t18 : tie.Need-cast-t18
 cast-t18 c = search needs
 
--- src/lib.rt:305:17
 cast-t19 : tie.Need-cast-t19
 cast-t19 c = search needs
 
--- src/lib.rt:286:1
 same-length-5 : tie.Need-same-length-5
 same-length-5 c = search needs
 
--- src/lib.rt:286:1
 returns-5 : tie.Need-returns-5
 returns-5 c =
     words-known _ _ _ _ _ _ (tops-told _ _ _ _ (c .before .before .before .before .before .listed .given .1) (c .before .before .before .before .before .before .before .before .before .tops .ensures)) _ (c .before .top-trivia .ensures)

@@ -3,9 +3,6 @@ use native.Mathlib.Omega.{arith}
 use Rattle.share.proofs.Ranks.{Held, held-none, held-inside, held-next, held-all}
 use Rattle.share.proofs.three_largest.Statement.{statement}
 use Rattle.share.proofs.three_largest.Tie as tie
-use Rattle.share.proofs.three_largest.Reads as reads
-use Rattle.share.proofs.three_largest.Lts as lts
-use Rattle.share.proofs.with_text.Reads as with-text-reads
 
 abbrev Inv-loop : tie.InvT-loop
 Inv-loop words n l₀ i₀ l i = (i ≤ n) × Held words i l
@@ -13,29 +10,23 @@ Inv-loop words n l₀ i₀ l i = (i ≤ n) × Held words i l
 abbrev μ-loop : tie.MeasureT-loop
 μ-loop words n l₀ i₀ l i = n - i
 
--- src/lib.rt:208:5
 loop-holds : tie.Need-loop-holds Inv-loop μ-loop
 loop-holds c = (omega arith, held-none _)
 
--- src/lib.rt:209:9
 with-text-requires : tie.Need-with-text-requires Inv-loop μ-loop
 with-text-requires c κs =
     let u = held-inside _ _ _ (c .before .loop .inv .1) in
     (omega (arith, c .before .before .before .pre), u .0, u .1, u .2)
 
--- src/lib.rt:210:9
 add-i : tie.Need-add-i Inv-loop μ-loop
 add-i c = omega arith
 
--- src/lib.rt:208:5
 loop-less : tie.Need-loop-less Inv-loop μ-loop
 loop-less c = omega arith
 
--- src/lib.rt:208:5
 loop-again : tie.Need-loop-again Inv-loop μ-loop
 loop-again c = (omega arith, held-next _ _ _ _ (c .before .before .loop .inv .1) (c .with-text .ensures))
 
--- src/lib.rt:197:1
 returns : tie.Need-returns Inv-loop μ-loop
 returns c = held-all _ _ _ _ (c .before .loop .inv .1) (c .before .loop .inv .0) (c .loop-test .left)
 

@@ -4,54 +4,40 @@ use native.Mathlib.Omega.{arith}
 use borrow.Author.Needs.{needs}
 use Rattle.share.proofs.trivia_at.Statement.{statement}
 use Rattle.share.proofs.trivia_at.Tie as tie
-use Rattle.share.proofs.trivia_at.Reads as reads
-use Rattle.share.proofs.trivia_at.Lts as lts
 
--- src/lib.rt:262:21
 mul-tlow : tie.Need-mul-tlow
 mul-tlow c = search needs
 
--- src/lib.rt:262:21
 add-tlow : tie.Need-add-tlow
 add-tlow c = search needs
 
--- src/lib.rt:262:16
 mul-tlow-2 : tie.Need-mul-tlow-2
 mul-tlow-2 c = search needs
 
--- src/lib.rt:262:16
 shared-slice-read-tlow : tie.Need-shared-slice-read-tlow
 shared-slice-read-tlow c = search needs
 
--- src/lib.rt:262:16
 cast-tlow : tie.Need-cast-tlow
 cast-tlow c = omega (arith, c .shared-slice-known .given (c .before .args .row * 6 + 2))
 
--- src/lib.rt:263:20
 mul-low : tie.Need-mul-low
 mul-low c = search needs
 
--- src/lib.rt:263:20
 add-low : tie.Need-add-low
 add-low c = search needs
 
--- src/lib.rt:263:15
 mul-low-2 : tie.Need-mul-low-2
 mul-low-2 c = search needs
 
--- src/lib.rt:263:15
 shared-slice-read-low : tie.Need-shared-slice-read-low
 shared-slice-read-low c = search needs
 
--- src/lib.rt:263:15
 cast-low : tie.Need-cast-low
 cast-low c = omega (arith, c .shared-slice-known2 .given (c .before .before .args .row * 6 + 3))
 
--- src/lib.rt:265:9
 returns : tie.Need-returns
 returns c = search needs
 
--- src/lib.rt:258:1
 returns-2 : tie.Need-returns-2
 returns-2 c = (refl, omega (arith, c .before .shared-slice-known2 .given (c .before .before .before .args .row * 6 + 3)))
 

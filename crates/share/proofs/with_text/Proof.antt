@@ -2,49 +2,37 @@ use borrow.Author.Needs.{needs}
 use Rattle.share.proofs.Ranks.{put-first, put-second, put-third, put-none}
 use Rattle.share.proofs.with_text.Statement.{statement}
 use Rattle.share.proofs.with_text.Tie as tie
-use Rattle.share.proofs.with_text.Reads as reads
-use Rattle.share.proofs.with_text.Lts as lts
-use Rattle.share.proofs.larger.Reads as larger-reads
-use Rattle.share.proofs.more.Reads as more-reads
 
--- src/lib.rt:166:33
 larger-requires : tie.Need-larger-requires
 larger-requires c κs = search needs
 
--- src/lib.rt:167:34
 larger-requires-2 : tie.Need-larger-requires-2
 larger-requires-2 c κs = search needs
 
--- src/lib.rt:168:33
 larger-requires-3 : tie.Need-larger-requires-3
 larger-requires-3 c κs = search needs
 
--- src/lib.rt:169:9
 more-requires : tie.Need-more-requires
 more-requires c κs = search needs
 
--- src/lib.rt:171:9
 returns : tie.Need-returns
 returns c =
     put-first (c .before .before .before .before .before .before .before .before .before .args .words .now) (c .before .before .before .before .before .before .before .before .before .args .i) (c .before .before .before .before .before .before .larger .result) (c .before .before .before .before .larger2 .result) (c .before .before .larger3 .result) (c .before .more .result) (c .before .before .before .before .before .before .before .before .before .args .l)
     (c .before .before .before .before .before .before .larger .ensures, c .before .before .before .before .larger2 .ensures, c .before .before .larger3 .ensures, c .before .more .ensures)
     (c .if1 .taken)
 
--- src/lib.rt:179:9
 returns-2 : tie.Need-returns-2
 returns-2 c =
     put-second (c .before .before .before .before .before .before .before .before .before .before .args .words .now) (c .before .before .before .before .before .before .before .before .before .before .args .i) (c .before .before .before .before .before .before .before .larger .result) (c .before .before .before .before .before .larger2 .result) (c .before .before .before .larger3 .result) (c .before .before .more .result) (c .before .before .before .before .before .before .before .before .before .before .args .l)
     (c .before .before .before .before .before .before .before .larger .ensures, c .before .before .before .before .before .larger2 .ensures, c .before .before .before .larger3 .ensures, c .before .before .more .ensures)
     (c .before .if1 .left) (c .if2 .taken)
 
--- src/lib.rt:187:9
 returns-3 : tie.Need-returns-3
 returns-3 c =
     put-third (c .before .before .before .before .before .before .before .before .before .before .before .args .words .now) (c .before .before .before .before .before .before .before .before .before .before .before .args .i) (c .before .before .before .before .before .before .before .before .larger .result) (c .before .before .before .before .before .before .larger2 .result) (c .before .before .before .before .larger3 .result) (c .before .before .before .more .result) (c .before .before .before .before .before .before .before .before .before .before .before .args .l)
     (c .before .before .before .before .before .before .before .before .larger .ensures, c .before .before .before .before .before .before .larger2 .ensures, c .before .before .before .before .larger3 .ensures, c .before .before .before .more .ensures)
     (c .before .before .if1 .left) (c .before .if2 .left) (c .if3 .taken)
 
--- src/lib.rt:162:1
 returns-4 : tie.Need-returns-4
 returns-4 c =
     put-none (c .before .before .before .before .before .before .before .before .before .before .before .args .words .now) (c .before .before .before .before .before .before .before .before .before .before .before .args .i) (c .before .before .before .before .before .before .before .before .larger .result) (c .before .before .before .before .before .before .larger2 .result) (c .before .before .before .before .larger3 .result) (c .before .before .before .more .result) (c .before .before .before .before .before .before .before .before .before .before .before .args .l)

@@ -4,30 +4,22 @@ use native.Mathlib.Omega.{arith}
 use borrow.Author.Needs.{needs}
 use Rattle.share.proofs.word.Statement.{statement}
 use Rattle.share.proofs.word.Tie as tie
-use Rattle.share.proofs.word.Reads as reads
-use Rattle.share.proofs.word.Lts as lts
 
--- src/lib.rt:58:11
 mul-result : tie.Need-mul-result
 mul-result c = search needs
 
--- src/lib.rt:58:11
 add-result : tie.Need-add-result
 add-result c = search needs
 
--- src/lib.rt:58:5
 mul-result-2 : tie.Need-mul-result-2
 mul-result-2 c = search needs
 
--- src/lib.rt:58:5
 shared-slice-read-result : tie.Need-shared-slice-read-result
 shared-slice-read-result c = search needs
 
--- src/lib.rt:58:5
 cast-result : tie.Need-cast-result
 cast-result c = omega (arith, c .shared-slice-known .given (c .before .args .i * 2 + c .before .args .column))
 
--- src/lib.rt:54:1
 returns : tie.Need-returns
 returns c = (refl, omega (arith, c .shared-slice-known .given (c .before .args .i * 2 + c .before .args .column)))
 
