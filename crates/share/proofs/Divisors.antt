@@ -142,7 +142,7 @@ lowest-one p q x y h c d e =
 
 -- The call's fraction ---------------------------------------------------------
 
-abbrev none-of : ℕ → ℕ → Bool
+abbrev pub none-of : ℕ → ℕ → Bool
 none-of a b = eqb a 0 || eqb b 0
 
 pub share-none : (a b : ℕ) → none-of a b ≡ true → record { numerator = 0; denominator = 1 } ≡ share a b

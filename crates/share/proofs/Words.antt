@@ -15,7 +15,7 @@ use Rattle.rows.specs.declared.TopsAnswer.{TopsAnswer}
 use Rattle.rows.specs.Tops.{top-rows, tops-settled, tops-listed, Covers, none, subtree}
 use Rattle.rows.proofs.Cover.{tops-cover}
 use Rattle.share.specs.Shares.{sum, wrong}
-use Rattle.share.specs.Words.{Text, Told, trivia-at, text-answer, told-over, text-words}
+use Rattle.share.specs.Words.{Text, Told, trivia-at, text-answer, over-tops, told-over, text-words}
 
 -- Where top rows stand --------------------------------------------------------
 
@@ -102,3 +102,19 @@ module _ (text rows roots after : List ℕ) (count : ℕ) where
       words-known h k =
           let u : trivia ≡ total = omega (arith, t) in
           told-answer _ (rw (le-ltb (length text) total (omega (arith, t)), le-ltb 65536 (length text) h) (ap (λ (m : ℕ). answered (record { trivia = m; length = length text })) u))
+
+-- what is answered is never refused with 28
+pub words-right : (text rows roots : List ℕ) (count : ℕ) (x : Text) → text-words text rows count roots .answer ≡ answered x → wrong (x .trivia) (x .length) ≡ false
+unfolding text-words
+words-right text rows roots count x e = go (tops-listed rows count roots .answer) (tops-listed rows count roots .table) e
+  where
+    go : (a : Answer ℕ) (t : List ℕ) → over-tops rows (length text) a t ≡ answered x → wrong (x .trivia) (x .length) ≡ false
+    go (refused k g) t e = absurd (let z : _≡_ {A = ℕ} 0 1 = cc in omega arith)
+    go (answered n) t e = taken (sum (λ i. trivia-at rows (getD t i 0)) n) e
+      where
+        taken : (s : ℕ) → text-answer s (length text) ≡ answered x → wrong (x .trivia) (x .length) ≡ false
+        taken s e = by-test (wrong s (length text)) refl e
+          where
+            by-test : (b : Bool) → wrong s (length text) ≡ b → cond b (refused 28 0) (answered (record { trivia = s; length = length text })) ≡ answered x → wrong (x .trivia) (x .length) ≡ false
+            by-test true q e = absurd (let z : _≡_ {A = ℕ} 0 1 = cc in omega arith)
+            by-test false q e = subst (λ (y : Text). wrong (y .trivia) (y .length) ≡ false) (let u : record { trivia = s; length = length text } ≡ x = cc in u) q

@@ -1,4 +1,5 @@
 pub mod Shares
 pub mod Words
 pub mod Steps
+pub mod Claims
 pub mod Answers

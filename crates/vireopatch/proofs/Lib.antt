@@ -2,3 +2,4 @@ pub mod Shown
 pub mod Demand
 pub mod Part
 pub mod Spelling
+pub mod Claims

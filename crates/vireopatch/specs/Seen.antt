@@ -1,8 +1,10 @@
 -- What a caller in C or Rust sees of a call: the number returned, the numbers behind the pointers, and the tables. Each is a function of what
 -- crate reading defines for that call. Crate parser has that of reading a text, since its call means the same.
+use mathlib.Core.Bool.{cond}
 use mathlib.Core.List.{List}
 use mathlib.Core.Option.{Option, none, some}
 use Prim.Native.Nat.{ℕ}
+use lib.Dec.{eqb}
 use Rattle.reading.specs.Table.{Answer, answered, refused}
 use Rattle.reading.specs.Number.{Base, number-value}
 use Rattle.reading.specs.Items.{Listed}
@@ -105,6 +107,21 @@ exported-shares a =
       third = shares-of a .third;
       given = given-of a;
     }
+
+-- what a caller takes them for
+abbrev pub answer-seen : SeenShares → Answer Shares
+answer-seen x =
+    cond (eqb (x .code) 0)
+    (answered
+    (record {
+      numerator = x .numerator;
+      denominator = x .denominator;
+      count = x .count;
+      first = x .first;
+      second = x .second;
+      third = x .third;
+    }))
+    (refused (x .code) (x .given))
 
 -- The two words of a text ---------------------------------------------------
 
