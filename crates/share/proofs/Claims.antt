@@ -9,15 +9,16 @@ use native.Mathlib.Nat.{eq-one-of-dvd-one, mul-div-cancel', mul-assoc, mul-comm,
 use borrow.Author.Tests.{eq-eqb, eqb-true, ltb-true, ltb-false, le-ltb}
 use lib.Dec.{ltb, eqb}
 use lib.ListN.{length, take, getD, length-take}
-use Rattle.reading.specs.Table.{Answer, answered, refused, first, when, found}
+use Rattle.reading.specs.Table.{Answer}
 use Rattle.share.specs.Answers.{told}
-use Rattle.share.specs.Claims.{all-trivia, all-bytes, Lowest, Equal, Ordered, Out, largest, Answered, Refused, too-many, wrong-text, Claimed}
-use Rattle.share.specs.Shares.{Fraction, Shares, max-texts, texts, trivia-of, length-of, wrong, or-else, first-wrong, sum, gcd, share, larger, ahead, ranked, shares-of, unless, shares}
+use Rattle.share.specs.Claims.{all-trivia, all-bytes, Lowest, Equal, Ordered, Out, listed, Answered, Refused, too-many as more-texts, wrong-text, Claimed}
+use Rattle.share.specs.Shares.{Fraction, Shares, max-texts, texts, trivia-of, length-of, wrong, or-else, first-wrong, sum, gcd, share, larger, ahead, ranked, shares-of, pooled, largest, shares}
 use Rattle.share.specs.Steps.{All}
 use Rattle.share.specs.declared.SharesAnswer.{SharesAnswer}
 use Rattle.share.proofs.Divisors.{Gcd, gcd-known, gcd-positive, reduced-lowest, lowest-one, none-of, share-none, share-some, some-left}
 use Rattle.share.proofs.Order.{ranked-ordered, ranked-has, take-ordered, out-behind, behind-smaller}
 use Rattle.share.proofs.Ranks.{ranked-length, ranked-before, take-all}
+use Rattle.share.proofs.Tests.{too-many, some-wrong, none-wrong}
 
 -- The fraction ----------------------------------------------------------------
 
@@ -133,12 +134,12 @@ module _ (w : List ℕ) where
 
 -- An answer -------------------------------------------------------------------
 
-listed : (x : Fraction) (js : List ℕ) → length js ≤ 3 → largest (shares-of x js) ≡ js
-listed x [] h = refl
-listed x (a ∷ []) h = refl
-listed x (a ∷ b ∷ []) h = refl
-listed x (a ∷ b ∷ c ∷ []) h = refl
-listed x (a ∷ b ∷ c ∷ d ∷ js) h = absurd (let z : ⊥ = omega arith in z)
+as-listed : (x : Fraction) (js : List ℕ) → length js ≤ 3 → listed (shares-of x js) ≡ js
+as-listed x [] h = refl
+as-listed x (a ∷ []) h = refl
+as-listed x (a ∷ b ∷ []) h = refl
+as-listed x (a ∷ b ∷ c ∷ []) h = refl
+as-listed x (a ∷ b ∷ c ∷ d ∷ js) h = absurd (let z : ⊥ = omega arith in z)
 
 absent : (js : List ℕ) (k : ℕ) → length js ≤ k → getD js k 0 ≡ 0
 absent [] k h = refl
@@ -146,19 +147,16 @@ absent (j ∷ js) zero h = absurd (let z : ⊥ = omega arith in z)
 absent (j ∷ js) (suc k) h = absent js k (omega arith)
 
 module _ (w : List ℕ) where
-  abbrev front : List ℕ
-  front = take 3 (ranked w (texts w))
-
   abbrev answer : Shares
-  answer = shares-of (share (all-trivia w) (all-bytes w)) front
+  answer = shares-of (pooled w) (largest w)
 
   answer-claims : first-wrong w (texts w) ≡ none → Answered w answer
   answer-claims e =
-      let u : Reduced (all-trivia w) (all-bytes w) (share (all-trivia w) (all-bytes w)) = share-reduced (all-trivia w) (all-bytes w) (trivia-less w (texts w) e) in
-      let n : length front ≡ min 3 (texts w) = length-take 3 (ranked w (texts w)) ∙ ap (λ (k : ℕ). min 3 k) (ranked-length w (texts w)) in
-      let l : largest answer ≡ front = listed (share (all-trivia w) (all-bytes w)) front (omega (arith, n)) in
+      let u : Reduced (all-trivia w) (all-bytes w) (pooled w) = share-reduced (all-trivia w) (all-bytes w) (trivia-less w (texts w) e) in
+      let n : length (largest w) ≡ min 3 (texts w) = length-take 3 (ranked w (texts w)) ∙ ap (λ (k : ℕ). min 3 k) (ranked-length w (texts w)) in
+      let l : listed answer ≡ largest w = as-listed (pooled w) (largest w) (omega (arith, n)) in
       let o : Ordered w (ranked w (texts w)) = ranked-ordered w (texts w) in
-      let f : (i : ℕ) → i < texts w → Out i (largest answer) → All (λ j. ahead w j i ≡ true) (largest answer) =
+      let f : (i : ℕ) → i < texts w → Out i (listed answer) → All (λ j. ahead w j i ≡ true) (listed answer) =
       λ i h k.
       subst (λ (js : List ℕ). All (λ j. ahead w j i ≡ true) js) (sym l)
       (out-behind w 3 i (ranked w (texts w)) o (ranked-has w (texts w) i h) (subst (λ (js : List ℕ). Out i js) l k))
@@ -166,51 +164,30 @@ module _ (w : List ℕ) where
       record {
         equal = u .equal;
         lowest = u .lowest;
-        only = only-one (all-trivia w) (all-bytes w) (share (all-trivia w) (all-bytes w)) u;
+        only = only-one (all-trivia w) (all-bytes w) (pooled w) u;
         no-bytes = no-bytes-share (all-trivia w) (all-bytes w);
         count = n;
         indexes = subst (λ (js : List ℕ). All (λ i. i < texts w) js) (sym l) (take-all 3 (ranked w (texts w)) (ranked-before w (texts w)));
-        no-first = absent front 0;
-        no-second = absent front 1;
-        no-third = absent front 2;
+        no-first = absent (largest w) 0;
+        no-second = absent (largest w) 1;
+        no-third = absent (largest w) 2;
         ordered = subst (λ (js : List ℕ). Ordered w js) (sym l) (take-ordered w 3 (ranked w (texts w)) o);
         behind = f;
-        no-larger = λ i h k. behind-smaller w i (largest answer) (f i h k);
+        no-larger = λ i h k. behind-smaller w i (listed answer) (f i h k);
       }
 
-  shares-answered : (s : Shares) → shares w ≡ answered s → Answered w s
-  unfolding shares
-  shares-answered s e = go (ltb max-texts (texts w)) (first-wrong w (texts w)) refl e
+  -- each outcome, by the tests that led to it
+  pub claimed : Claimed w (shares w)
+  claimed = go (ltb max-texts (texts w)) refl (first-wrong w (texts w)) refl
     where
-      go : (b : Bool) (o : Option ℕ) → first-wrong w (texts w) ≡ o → unless (first (when b 27 (texts w) ∷ found o 28 ∷ [])) answer ≡ answered s → Answered w s
-      go true o q e = absurd (let z : _≡_ {A = ℕ} 0 1 = cc in omega arith)
-      go false (some i) q e = absurd (let z : _≡_ {A = ℕ} 0 1 = cc in omega arith)
-      go false none q e = subst (λ (x : Shares). Answered w x) (let u : answer ≡ s = cc in u) (answer-claims q)
-
-  shares-refused : (k g : ℕ) → shares w ≡ refused k g → Refused w k g
-  unfolding shares
-  shares-refused k g e = go (ltb max-texts (texts w)) refl (first-wrong w (texts w)) refl e
-    where
-      go : (b : Bool) → ltb max-texts (texts w) ≡ b → (o : Option ℕ) → first-wrong w (texts w) ≡ o
-          → unless (first (when b 27 (texts w) ∷ found o 28 ∷ [])) answer ≡ refused k g → Refused w k g
-      go true p o q e =
-          let u : 27 ≡ k = cc in
-          let v : texts w ≡ g = cc in
-          subst (λ (n : ℕ). Refused w n g) u (subst (λ (n : ℕ). Refused w 27 n) v (too-many (ltb-true max-texts (texts w) p)))
-      go false p (some i) q e =
-          let u : 28 ≡ k = cc in
-          let v : i ≡ g = cc in
+      go : (b : Bool) → ltb max-texts (texts w) ≡ b → (o : Option ℕ) → first-wrong w (texts w) ≡ o → Claimed w (shares w)
+      go true p o q = subst (λ (a : Answer Shares). Claimed w a) (too-many w (ltb-true max-texts (texts w) p)) (more-texts (ltb-true max-texts (texts w) p))
+      go false p (some i) q =
+          let few : texts w ≤ max-texts = ltb-false max-texts (texts w) p in
           let f = first-one w (texts w) i q in
-          subst (λ (n : ℕ). Refused w n g) u
-          (subst (λ (n : ℕ). Refused w 28 n) v (wrong-text (ltb-false max-texts (texts w) p) (f .inside) (f .is-wrong) (f .before)))
-      go false p none q e = absurd (let z : _≡_ {A = ℕ} 0 1 = cc in omega arith)
-
--- The call --------------------------------------------------------------------
-
-pub claimed : (w : List ℕ) (a : Answer Shares) → shares w ≡ a → Claimed w a
-claimed w (answered s) e = shares-answered w s e
-claimed w (refused k g) e = shares-refused w k g e
+          subst (λ (a : Answer Shares). Claimed w a) (some-wrong w few i q) (wrong-text few (f .inside) (f .is-wrong) (f .before))
+      go false p none q = subst (λ (a : Answer Shares). Claimed w a) (none-wrong w (ltb-false max-texts (texts w) p) q) (answer-claims q)
 
 -- any call that meets its contract
 pub shares-claims : (w : List ℕ) (r : SharesAnswer) → told r ≡ shares w → Claimed w (told r)
-shares-claims w r m = claimed w (told r) (sym m)
+shares-claims w r m = subst (λ (a : Answer Shares). Claimed w a) (sym m) (claimed w)

@@ -37,8 +37,8 @@ abbrev pub Out : ℕ → List ℕ → Type 0
 Out i js = All (λ j. j ≡ i → ⊥) js
 
 -- the indexes that an answer lists
-abbrev pub largest : Shares → List ℕ
-largest s = take (s .count) (s .first ∷ s .second ∷ s .third ∷ [])
+abbrev pub listed : Shares → List ℕ
+listed s = take (s .count) (s .first ∷ s .second ∷ s .third ∷ [])
 
 -- An answer -------------------------------------------------------------------
 
@@ -52,15 +52,15 @@ pub record Answered (w : List ℕ) (s : Shares) : Type 0 where
   pub no-bytes : all-bytes w ≡ 0 → (s .numerator ≡ 0) × (s .denominator ≡ 1)
   -- "the three texts (all, if fewer)"; absent ones are 0
   pub count : s .count ≡ min 3 (texts w)
-  pub indexes : All (λ i. i < texts w) (largest s)
+  pub indexes : All (λ i. i < texts w) (listed s)
   pub no-first : s .count ≤ 0 → s .first ≡ 0
   pub no-second : s .count ≤ 1 → s .second ≡ 0
   pub no-third : s .count ≤ 2 → s .third ≡ 0
   -- "with the largest shares, largest first, equal shares by earlier index"
-  pub ordered : Ordered w (largest s)
+  pub ordered : Ordered w (listed s)
   -- a text that is left out comes behind each of them, and so has no larger share
-  pub behind : (i : ℕ) → i < texts w → Out i (largest s) → All (λ j. ahead w j i ≡ true) (largest s)
-  pub no-larger : (i : ℕ) → i < texts w → Out i (largest s) → All (λ j. larger w i j ≡ false) (largest s)
+  pub behind : (i : ℕ) → i < texts w → Out i (listed s) → All (λ j. ahead w j i ≡ true) (listed s)
+  pub no-larger : (i : ℕ) → i < texts w → Out i (listed s) → All (λ j. larger w i j ≡ false) (listed s)
 
 -- A refusal -------------------------------------------------------------------
 

@@ -113,11 +113,21 @@ shares-of x is =
       third = getD is 2 0;
     }
 
+-- the pooled share of all texts
+abbrev pub pooled : List ℕ → Fraction
+pooled w = share (sum (trivia-of w) (texts w)) (sum (length-of w) (texts w))
+
+-- the texts with the largest shares: three, or all if there are fewer
+abbrev pub largest : List ℕ → List ℕ
+largest w = take 3 (ranked w (texts w))
+
+-- 27, then 28
+abbrev pub refusal : List ℕ → Test
+refusal w = first (when (ltb max-texts (texts w)) 27 (texts w) ∷ found (first-wrong w (texts w)) 28 ∷ [])
+
 abbrev pub unless : {A : Type 0} → Test → A → Answer A
 unless none x = answered x
 unless (some r) x = refused (r .0) (r .1)
 
 unfoldable pub shares : List ℕ → Answer Shares
-shares w =
-    unless (first (when (ltb max-texts (texts w)) 27 (texts w) ∷ found (first-wrong w (texts w)) 28 ∷ []))
-    (shares-of (share (sum (trivia-of w) (texts w)) (sum (length-of w) (texts w))) (take 3 (ranked w (texts w))))
+shares w = unless (refusal w) (shares-of (pooled w) (largest w))

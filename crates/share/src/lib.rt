@@ -131,7 +131,7 @@ fn over(length: u64) -> u64
     if length == 0 { 1 } else { length }
 }
 
-// By cross products: two words make one of 64 bits.
+// Text i is a over b, and text j is c over d. By cross products, which are exact: two words make one of 64 bits.
 fn larger(words: &[u32], i: usize, j: usize) -> bool
     requires { ⌜ (i < texts (now words)) × (j < texts (now words)) ⌝ }
     ensures { λ r. ⌜ r ≡ larger (now (words .entry)) i j ⌝ }
@@ -140,7 +140,9 @@ fn larger(words: &[u32], i: usize, j: usize) -> bool
     let b = over(word(words, LENGTH, i));
     let c = word(words, TRIVIA, j);
     let d = over(word(words, LENGTH, j));
-    c * b < a * d
+    let x = c * b;
+    let y = a * d;
+    x < y
 }
 
 // One more, but no more than three.

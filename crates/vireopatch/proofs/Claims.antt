@@ -22,4 +22,4 @@ seen-again w (answered s) c = refl
 seen-again w (refused k g) c = rw (ne-eqb k 0 (code-known c))
 
 pub vireopatch-shares-claims : (w : List ℕ) (x : SeenShares) → x ≡ exported-shares (shares w) → Claimed w (answer-seen x)
-vireopatch-shares-claims w x m = claimed w (answer-seen x) (sym (ap answer-seen m ∙ seen-again w (shares w) (claimed w (shares w) refl)))
+vireopatch-shares-claims w x m = subst (λ (a : Answer Shares). Claimed w a) (sym (ap answer-seen m ∙ seen-again w (shares w) (claimed w))) (claimed w)

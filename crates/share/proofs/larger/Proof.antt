@@ -22,11 +22,11 @@ word-requires-4 c κs = search needs
 over-requires-2 : tie.Need-over-requires-2
 over-requires-2 c κs = search needs
 
-mul-result : tie.Need-mul-result
-mul-result c = omega (arith, product (c .before .before .word3 .result) (c .before .before .before .over .result) (c .before .before .word3 .ensures .1) (omega (arith, c .before .before .before .over .ensures, c .before .before .before .before .word2 .ensures .1)))
+mul-x : tie.Need-mul-x
+mul-x c = omega (arith, product (c .before .before .word3 .result) (c .before .before .before .over .result) (c .before .before .word3 .ensures .1) (omega (arith, c .before .before .before .over .ensures, c .before .before .before .before .word2 .ensures .1)))
 
-mul-result-2 : tie.Need-mul-result-2
-mul-result-2 c = omega (arith, product (c .before .before .before .before .before .word .result) (c .over2 .result) (c .before .before .before .before .before .word .ensures .1) (omega (arith, c .over2 .ensures, c .before .word4 .ensures .1)))
+mul-y : tie.Need-mul-y
+mul-y c = omega (arith, product (c .before .before .before .before .before .word .result) (c .over2 .result) (c .before .before .before .before .before .word .ensures .1) (omega (arith, c .over2 .ensures, c .before .word4 .ensures .1)))
 
 returns : tie.Need-returns
 returns c =
@@ -43,6 +43,6 @@ larger-spec =
     word-requires-3
     word-requires-4
     over-requires-2
-    mul-result
-    mul-result-2
+    mul-x
+    mul-y
     returns)

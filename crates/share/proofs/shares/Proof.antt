@@ -1,5 +1,5 @@
 use borrow.Author.Needs.{needs}
-use Rattle.share.proofs.Tests.{too-many, wrong-at, none-wrong}
+use Rattle.share.proofs.Tests.{too-many, wrong-found, all-found}
 use Rattle.share.proofs.shares.Statement.{statement}
 use Rattle.share.proofs.shares.Tie as tie
 
@@ -10,7 +10,7 @@ first-wrong-requires : tie.Need-first-wrong-requires
 first-wrong-requires c κs = search needs
 
 returns-2 : tie.Need-returns-2
-returns-2 c = wrong-at _ (c .before .before .if1 .left) _ (c .before .first-wrong .ensures) (c .if2 .taken)
+returns-2 c = wrong-found _ (c .before .before .if1 .left) _ (c .before .first-wrong .ensures) (c .if2 .taken)
 
 pooled-requires : tie.Need-pooled-requires
 pooled-requires c κs = search needs
@@ -26,7 +26,7 @@ three-largest-requires c κs = search needs
 
 returns-3 : tie.Need-returns-3
 returns-3 c =
-    none-wrong _ (c .before .before .before .before .before .before .if1 .left) _ (c .before .before .before .before .before .first-wrong .ensures) _ _ _ _ (c .before .before .before .before .if2 .left) (c .before .before .before .pooled .ensures) (c .before .before .pooled2 .ensures)
+    all-found _ (c .before .before .before .before .before .before .if1 .left) _ (c .before .before .before .before .before .first-wrong .ensures) _ _ _ _ (c .before .before .before .before .if2 .left) (c .before .before .before .pooled .ensures) (c .before .before .pooled2 .ensures)
     (c .before .reduced .ensures) (c .three-largest .ensures)
 
 pub shares-spec : {M : Type 1} → statement M
