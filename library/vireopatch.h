@@ -11,9 +11,9 @@
  * pointers, refused or not; what stood there before is not read.
  *
  * Pointers. None may be null, not even one whose length is 0: that one need only be aligned. A text is read at its first LEN bytes, a table is
- * read and written at its first LEN words of 4 bytes, and nothing else is touched. Tables and numbers have the alignment of their C type. What a
- * call writes (tables, numbers) may not overlap anything else that is handed to the same call. No pointer is kept. A length in bytes is at
- * most PTRDIFF_MAX.
+ * read and written at its first LEN words, and nothing else is touched. A word is a uint32_t, of 4 bytes; the table `roots` alone has words of
+ * type size_t. Tables and numbers have the alignment of their C type. What a call writes (tables, numbers) may not overlap anything else that
+ * is handed to the same call. No pointer is kept. A length in bytes is at most PTRDIFF_MAX.
  *
  * A bool is C's _Bool: one byte, 0 or 1.
  *
@@ -41,14 +41,16 @@ enum {
     VIREOPATCH_SCOPE_TOO_LARGE       = 3,   /* the starting scope number is over VIREOPATCH_MAX_SCOPE; gives it */
     VIREOPATCH_LEVEL_TOO_LARGE       = 4,   /* the level limit is over VIREOPATCH_MAX_LEVEL; gives it */
     VIREOPATCH_TOO_DEEP              = 5,   /* some attempt goes to a level above the limit; gives the limit */
-    VIREOPATCH_NO_ROOM_FOR_ROWS      = 6,   /* gives the number of rows needed */
+    VIREOPATCH_NO_ROOM_FOR_ROWS      = 6,   /* gives the number of rows needed; in vireopatch_text_words, of top rows */
     VIREOPATCH_NO_ROOM_FOR_ERRORS    = 7,   /* gives the number of errors needed */
     VIREOPATCH_NO_ROOM_FOR_REQUESTS  = 8,   /* gives the number of requests needed */
     VIREOPATCH_VALUE_TOO_LARGE       = 9,   /* a number above VIREOPATCH_MAX_VALUE */
     VIREOPATCH_NOT_A_NUMBER          = 10,  /* anything but `true`, `false` (any letter case) or one or more digits of the base; any text, if the type is none */
     VIREOPATCH_NO_ITEM               = 11,  /* gives the first place that starts no item of trivia */
     VIREOPATCH_NO_ROOM_FOR_ITEMS     = 12,  /* gives the number of items needed */
-    VIREOPATCH_NO_SUBTREE            = 13   /* gives the count */
+    VIREOPATCH_NO_SUBTREE            = 13,  /* gives the count at which none ends */
+    VIREOPATCH_TOO_MANY_TEXTS        = 27,  /* over VIREOPATCH_MAX_TEXTS texts; gives their number */
+    VIREOPATCH_WRONG_TEXT            = 28   /* trivia above the length, or a length over VIREOPATCH_MAX_TEXT; gives the first such index */
 };
 
 /* Limits of the arguments. */
@@ -56,6 +58,7 @@ enum {
 #define VIREOPATCH_MAX_SCOPE 1000000u
 #define VIREOPATCH_MAX_LEVEL 64u
 #define VIREOPATCH_MAX_VALUE UINT64_C(9223372036854775807)
+#define VIREOPATCH_MAX_TEXTS 1000u
 
 /*
  * The words of a row, and how many there are. Rows stand children first, in the order of the text, then the parent. Trivia (blanks, line
@@ -94,14 +97,22 @@ enum {
     VIREOPATCH_ITEM_WORDS = 3
 };
 
+/* The words of a text in a list of shares. */
+enum {
+    VIREOPATCH_TEXT_TRIVIA = 0,  /* the trivia bytes of its top rows */
+    VIREOPATCH_TEXT_LENGTH = 1,
+    VIREOPATCH_TEXT_WORDS  = 2
+};
+
 /*
  * Words that are enough for every text of N bytes: it has at most 4N + 1 rows, N + 1 errors and N requests, and a run of N bytes at most N
- * items. Real texts have fewer rows; a refusal names the need.
+ * items. Real texts have fewer rows; a refusal names the need. A table of roots has a word for each top row, and these are some of the rows.
  */
 #define VIREOPATCH_ROWS_ENOUGH(n)     (((size_t)4 * (n) + 1) * VIREOPATCH_ROW_WORDS)
 #define VIREOPATCH_ERRORS_ENOUGH(n)   (((size_t)(n) + 1) * VIREOPATCH_ERROR_WORDS)
 #define VIREOPATCH_REQUESTS_ENOUGH(n) ((size_t)(n) * VIREOPATCH_REQUEST_WORDS)
 #define VIREOPATCH_ITEMS_ENOUGH(n)    ((size_t)(n) * VIREOPATCH_ITEM_WORDS)
+#define VIREOPATCH_ROOTS_ENOUGH(n)    ((size_t)4 * (n) + 1)
 
 /* Codes of errors. 3, 4 and 5 sit at the empty place where the wanted part would begin, before trivia; 1 at the end of the text. */
 enum {
@@ -355,6 +366,52 @@ uint32_t vireopatch_walk(
     const uint32_t *rows, size_t rows_len,
     size_t count,
     size_t *root, size_t *before, size_t *given);
+
+/*
+ * How much of a list of texts is trivia, and which of them have the largest shares. A text's share is its trivia over its length, 0 for a text
+ * of no bytes.
+ *
+ * words, words_len  the list, VIREOPATCH_TEXT_WORDS words a text, as vireopatch_text_words gives them; an unpaired last word is ignored.
+ *                   Nothing is written
+ * numerator, denominator  set to the pooled share, all trivia over all lengths, in lowest terms; 0 over 1 for no trivia or no bytes; 0 and 0
+ *                   for a refusal
+ * count             set to how many of the largest there are: 3, or the number of texts if that is less; 0 for a refusal
+ * first, second, third    set to their indexes, counted from 0: the largest share first, equal ones by earlier index; 0 for one that is
+ *                   absent, and for a refusal
+ * given             set to what the refusal gives; 0 for an answer
+ *
+ * Returns 0, or the first of these that applies: 27, 28. Shares are compared exactly.
+ */
+uint32_t vireopatch_shares(
+    const uint32_t *words, size_t words_len,
+    uint64_t *numerator, uint64_t *denominator,
+    size_t *count, size_t *first, size_t *second, size_t *third,
+    size_t *given);
+
+/*
+ * The two words of a text for vireopatch_shares, from its reading: the trivia bytes of its top rows, and its length. The trivia of a row is
+ * tlow to low; the row of kind 8, the end, is a top row too.
+ *
+ * text, text_len    the text that was read
+ * rows, rows_len    the table of rows that vireopatch_read filled for it; nothing is written
+ * count             its row_count
+ * roots, roots_len  a table for the numbers of the top rows, counted from 0, first to last: roots_len words of type size_t. `count` words are
+ *                   always enough
+ * trivia, length    set to the two words; 0 for a refusal
+ * given             set to what the refusal gives; 0 for an answer
+ *
+ * Returns 0, or the first of these that applies: 13, for rows and a count that are no subtrees one behind the other; 6, for fewer words in
+ * roots than there are top rows; 28, which gives 0. 13 and 28 are for rows that are not this text's: no reading of the text itself has had them in
+ * any run, but that is not proved.
+ *
+ * The table afterwards. Answer and 28: the top rows, and 0 in every word behind the last. 13: as it was. 6: 0 in every word.
+ */
+uint32_t vireopatch_text_words(
+    const uint8_t *text, size_t text_len,
+    const uint32_t *rows, size_t rows_len,
+    size_t count,
+    size_t *roots, size_t roots_len,
+    uint32_t *trivia, uint32_t *length, size_t *given);
 
 #ifdef __cplusplus
 }

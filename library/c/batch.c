@@ -1,8 +1,9 @@
 /*
- * batch < CASES, batch --room < CASES: reads many texts, for `compare`.
+ * batch < CASES, batch --room < CASES, batch --words < CASES: reads many texts, for `compare`.
  *
  * A case is a line, HEX or SCOPE FLAG<tab>HEX: the bytes of a text, and the state to read it from (else 0 0). Each is printed again with a tab
- * and its listing, LF replaced by `|`; or `! ` and the refusal; with --room its needs instead (see needs). Status 1 if a check failed.
+ * and its listing, LF replaced by `|`; or `! ` and the refusal; with --room its needs instead (see needs), with --words its trivia bytes and
+ * its length (see text_words). Status 1 if a check failed.
  */
 #include "vireopatch.h"
 
@@ -186,13 +187,61 @@ static void needs(struct text t)
     drop(&r);
 }
 
+/* The top rows, which walk finds from the last to the first, and zeros behind them. */
+static void check_roots(const struct reading *r, const size_t *roots, size_t top, size_t len)
+{
+    size_t count = r->count[ROWS], root, given;
+    for (size_t i = top; i < len; i++)
+        check(roots[i] == 0, "zeros behind the last top row");
+    while (top-- > 0) {
+        check(vireopatch_walk(r->words[ROWS], r->len[ROWS], count, &root, &count, &given) == VIREOPATCH_ANSWERED, "a subtree for each top row");
+        check(roots[top] == root, "the top rows");
+    }
+    check(count == 0, "all top rows");
+}
+
+/* The words of a text, in a table of so many roots, which is not set before the call. Gives how many top rows there are if they have no room. */
+static size_t words_in(struct text t, const struct reading *r, size_t top, size_t len, uint32_t *trivia, uint32_t *length)
+{
+    size_t given, *roots = memory(len * sizeof *roots);
+    uint32_t code = vireopatch_text_words(t.bytes, t.len, r->words[ROWS], r->len[ROWS], r->count[ROWS], roots, len, trivia, length, &given);
+    if (len < top) {
+        check(code == VIREOPATCH_NO_ROOM_FOR_ROWS && *trivia == 0 && *length == 0, "the refusal of too few roots");
+        for (size_t i = 0; i < len; i++)
+            check(roots[i] == 0, "the roots of a refusal");
+    } else {
+        check(code == VIREOPATCH_ANSWERED && given == 0, "an answer where there is room for roots");
+        check_roots(r, roots, top, len);
+    }
+    free(roots);
+    return given;
+}
+
+/* Trivia bytes and length of a text. Just enough roots are answered as more are, and less is refused, with the need, which is never 0. */
+static void text_words(struct text t)
+{
+    struct reading r = with_enough(t);
+    if (r.code != VIREOPATCH_ANSWERED) {
+        printf("! %lu %zu", (unsigned long)r.code, r.given);
+    } else {
+        uint32_t word[2], more[2];
+        size_t top = words_in(t, &r, 1, 0, &word[0], &word[1]);
+        check(words_in(t, &r, top, top - 1, &word[0], &word[1]) == top, "what the refusal of too few roots gives");
+        words_in(t, &r, top, top + 2, &more[0], &more[1]);
+        words_in(t, &r, top, top, &word[0], &word[1]);
+        check(word[0] == more[0] && word[1] == more[1], "the words where there is room");
+        printf("%lu %lu", (unsigned long)word[VIREOPATCH_TEXT_TRIVIA], (unsigned long)word[VIREOPATCH_TEXT_LENGTH]);
+    }
+    drop(&r);
+}
+
 static int digit(char c)
 {
     return c >= '0' && c <= '9' ? c - '0' : c >= 'a' && c <= 'f' ? c - 'a' + 10 : -1;
 }
 
 /* One case; the line has no LF. */
-static int run(const char *line, int room)
+static int run(const char *line, void (*print)(struct text))
 {
     const char *hex = strchr(line, '\t');
     struct text t = {NULL, 0, 0, false};
@@ -214,7 +263,7 @@ static int run(const char *line, int room)
     }
     t.bytes = bytes;
     printf("%s\t", line);
-    (room ? needs : listing)(t);
+    print(t);
     printf("\n");
     free(bytes);
     return 1;
@@ -222,12 +271,13 @@ static int run(const char *line, int room)
 
 int main(int argc, char **argv)
 {
-    int room = argc > 1 && !strcmp(argv[1], "--room");
+    const char *mode = argc > 1 ? argv[1] : "";
+    void (*print)(struct text) = !strcmp(mode, "--room") ? needs : !strcmp(mode, "--words") ? text_words : listing;
     size_t most = 4 * (size_t)VIREOPATCH_MAX_TEXT;
     char *line = memory(most);
     while (fgets(line, (int)most, stdin)) {
         line[strcspn(line, "\r\n")] = 0;
-        if (!run(line, room)) {
+        if (!run(line, print)) {
             fprintf(stderr, "batch: no case: %s\n", line);
             failed = 1;
         }

@@ -1,4 +1,4 @@
-/* What the examples share: the text that they are called with, and its reading as a first text, in tables that are always enough. */
+/* What the examples share: a text that they are called with, and its reading as a first text, in tables that are always enough. */
 #ifndef EXAMPLE_H
 #define EXAMPLE_H
 
@@ -36,6 +36,13 @@ static int slurp(FILE *from, struct text *out)
     return out->bytes && !ferror(from);
 }
 
+/* Prints a refusal, whose status is 1. */
+static int refused(uint32_t code, size_t given)
+{
+    printf("refusal number\n%lu %zu\n", (unsigned long)code, given);
+    return 1;
+}
+
 /* Reads the text, and has the reading printed, or prints the refusal. Status: that of `print`, 1 refused, 2 no memory. */
 static int read_and_print(struct text text, int (*print)(struct text, const struct reading *))
 {
@@ -43,7 +50,7 @@ static int read_and_print(struct text text, int (*print)(struct text, const stru
     size_t n = text.len <= VIREOPATCH_MAX_TEXT ? text.len : 0;
     size_t errors_len = VIREOPATCH_ERRORS_ENOUGH(n), requests_len = VIREOPATCH_REQUESTS_ENOUGH(n + 1), given;
     struct reading r = {.rows_len = VIREOPATCH_ROWS_ENOUGH(n)};
-    int status = 1;
+    int status;
     r.rows = malloc((r.rows_len + errors_len + requests_len) * sizeof *r.rows);
     if (!r.rows)
         return 2;
@@ -53,19 +60,16 @@ static int read_and_print(struct text text, int (*print)(struct text, const stru
     uint32_t code = vireopatch_read(text.bytes, text.len, 0, false, VIREOPATCH_MAX_LEVEL, r.rows, r.rows_len, r.errors, errors_len,
                                     r.requests, requests_len, &r.row_count, &r.error_count, &r.request_count, &r.end_scope,
                                     &r.end_swallow, &given);
-    if (code == VIREOPATCH_ANSWERED)
-        status = print(text, &r);
-    else
-        printf("refusal number\n%lu %zu\n", (unsigned long)code, given);
+    status = code == VIREOPATCH_ANSWERED ? print(text, &r) : refused(code, given);
     free(r.rows);
     return status;
 }
 
-/* The same for the file that the example is called with, or standard input. Status 2 if there is no text. */
-static int run(int argc, char **argv, const char *name, int (*print)(struct text, const struct reading *))
+/* The same for a file that the example is called with, or standard input if it is null. Status 2 if there is no text. */
+static int run(const char *file, const char *name, int (*print)(struct text, const struct reading *))
 {
     struct text text;
-    FILE *from = argc > 1 ? fopen(argv[1], "rb") : stdin;
+    FILE *from = file ? fopen(file, "rb") : stdin;
     int status;
     if (!from || !slurp(from, &text)) {
         fprintf(stderr, "%s: no text\n", name);

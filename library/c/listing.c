@@ -23,5 +23,5 @@ static int print_listing(struct text text, const struct reading *r)
 
 int main(int argc, char **argv)
 {
-    return run(argc, argv, "listing", print_listing);
+    return run(argc > 1 ? argv[1] : NULL, "listing", print_listing);
 }

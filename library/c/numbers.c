@@ -49,5 +49,5 @@ static int print_numbers(struct text text, const struct reading *r)
 
 int main(int argc, char **argv)
 {
-    return run(argc, argv, "numbers", print_numbers);
+    return run(argc > 1 ? argv[1] : NULL, "numbers", print_numbers);
 }

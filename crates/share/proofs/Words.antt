@@ -2,7 +2,7 @@
 use mathlib.Core.Path.{_≡_, refl, ap, sym, subst, _∙_}
 use mathlib.Core.Bool.{Bool, true, false, _||_, cond, or-true}
 use mathlib.Core.List.{List, [], _∷_, _++_}
-use Prim.Native.Nat.{ℕ, zero, suc, _-_, min, _≤_, _<_}
+use Prim.Native.Nat.{ℕ, zero, suc, _+_, _-_, min, _≤_, _<_}
 use native.Mathlib.Omega.{arith}
 use borrow.Author.Tests.{lt-ltb, le-ltb, ltb-false}
 use lib.Dec.{ltb, eqb}
@@ -14,6 +14,7 @@ use Rattle.rows.specs.Answers.{told-tops, listed}
 use Rattle.rows.specs.declared.TopsAnswer.{TopsAnswer}
 use Rattle.rows.specs.Tops.{top-rows, tops-settled, tops-listed, Covers, none, subtree}
 use Rattle.rows.proofs.Cover.{tops-cover}
+use Rattle.rows.proofs.Turns.{walk-less}
 use Rattle.share.specs.Shares.{sum, wrong}
 use Rattle.share.specs.Words.{Text, Told, trivia-at, text-answer, over-tops, told-over, text-words}
 
@@ -118,3 +119,13 @@ words-right text rows roots count x e = go (tops-listed rows count roots .answer
             by-test : (b : Bool) → wrong s (length text) ≡ b → cond b (refused 28 0) (answered (record { trivia = s; length = length text })) ≡ answered x → wrong (x .trivia) (x .length) ≡ false
             by-test true q e = absurd (let z : _≡_ {A = ℕ} 0 1 = cc in omega arith)
             by-test false q e = subst (λ (y : Text). wrong (y .trivia) (y .length) ≡ false) (let u : record { trivia = s; length = length text } ≡ x = cc in u) q
+
+-- a subtree has a row at least, so there are no more top rows than rows
+covers-few : (t : List ℕ) {b n : ℕ} {rs : List ℕ} → Covers t b rs n → b + length rs ≤ n
+covers-few t none = omega arith
+covers-few t (subtree e c) = omega (arith, walk-less t _ _ e, covers-few t c)
+
+-- so a table with a word for each row has room for them
+pub tops-enough : (rows roots rs : List ℕ) (count : ℕ) → top-rows rows count ≡ answered rs → count ≤ length roots → tops-listed rows count roots .answer ≡ answered (length rs)
+unfolding tops-listed
+tops-enough rows roots rs count e h = rw (e, le-ltb (length roots) (length rs) (omega (arith, covers-few rows (tops-cover rows count rs e))))

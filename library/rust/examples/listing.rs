@@ -13,7 +13,8 @@ fn print_records(words: &[u32], count: usize, width: usize) {
 }
 
 fn main() {
-    let (_, [rows, errors, requests], reading) = example::read_text("listing");
+    let (_, [rows, errors, requests], reading) =
+        example::read_text("listing", std::env::args_os().nth(1));
     println!("kind size tlow low high detail");
     print_records(&rows, reading.rows, ROW);
     println!("error low high");

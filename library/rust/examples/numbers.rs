@@ -17,7 +17,7 @@ fn print_number(text: &[u8], rows: &[&[u32]], number: usize) {
 }
 
 fn main() {
-    let (text, [words, ..], reading) = example::read_text("numbers");
+    let (text, [words, ..], reading) = example::read_text("numbers", std::env::args_os().nth(1));
     let rows: Vec<&[u32]> = words.chunks_exact(ROW).collect();
     // The top rows are found from the last to the first.
     let mut tops = vec![];

@@ -1,4 +1,4 @@
-//! Safe calls of the verified MOS assembly reader: [`read`], [`value`], [`items`], [`walk`].
+//! Safe calls of the verified MOS assembly reader: [`read`], [`value`], [`items`], [`walk`], [`shares`], [`text_words`].
 //!
 //! The functions behind them are written in Rattle and proved; `library/vireopatch.h` says what they do, word for word. Here slices carry
 //! their lengths, and a refusal is an `Err`. Nothing allocates and nothing panics.
@@ -36,6 +36,9 @@ pub const REQUEST: usize = 2;
 /// Words of an item of trivia: kind, low, high.
 pub const ITEM: usize = 3;
 
+/// Words of a text in a list of shares: trivia, length.
+pub const TEXT: usize = 2;
+
 /// The longest text.
 pub const MAX_TEXT: usize = 65_536;
 
@@ -47,6 +50,9 @@ pub const MAX_LEVEL: usize = 64;
 
 /// The largest value of a number.
 pub const MAX_VALUE: u64 = 9_223_372_036_854_775_807;
+
+/// The most texts in a list of shares.
+pub const MAX_TEXTS: usize = 1_000;
 
 /// Words that are enough for every text of so many bytes.
 pub mod enough {
@@ -64,6 +70,11 @@ pub mod enough {
 
     pub const fn item_words(bytes: usize) -> usize {
         bytes * super::ITEM
+    }
+
+    /// Top rows are some of the rows.
+    pub const fn root_words(bytes: usize) -> usize {
+        4 * bytes + 1
     }
 }
 
@@ -92,6 +103,33 @@ pub struct Subtree {
     pub root: usize,
     /// How many rows stand before it.
     pub before: usize,
+}
+
+/// How much of a list of texts is trivia, and which of them have the largest shares.
+#[derive(Clone, Copy, Debug, PartialEq, Eq)]
+pub struct Shares {
+    /// The pooled share, all trivia over all lengths, in lowest terms; 0 over 1 for no trivia or no bytes.
+    pub numerator: u64,
+    pub denominator: u64,
+    /// How many of the largest there are: 3, or the number of texts if that is less.
+    pub count: usize,
+    /// Their indexes: the largest share first, equal ones by earlier index; 0 for one that is absent.
+    pub largest: [usize; 3],
+}
+
+impl Shares {
+    /// The indexes that are there.
+    pub fn indexes(&self) -> &[usize] {
+        &self.largest[..self.count.min(3)]
+    }
+}
+
+/// The two words of a text in a list of shares.
+#[derive(Clone, Copy, Debug, PartialEq, Eq)]
+pub struct TextWords {
+    /// The trivia bytes of its top rows.
+    pub trivia: u32,
+    pub length: u32,
 }
 
 /// A number's type: the detail of a row of kind [`kind::NUMBER_TYPE`].
@@ -127,7 +165,7 @@ pub enum Refusal {
     LevelTooLarge(usize),
     /// 5: some attempt goes to a level above the limit; the limit.
     TooDeep(usize),
-    /// 6: the number of rows needed.
+    /// 6: the number of rows needed; of [`text_words`], of top rows.
     NoRoomForRows(usize),
     /// 7: the number of errors needed.
     NoRoomForErrors(usize),
@@ -141,8 +179,13 @@ pub enum Refusal {
     NoItem(usize),
     /// 12: the number of items needed.
     NoRoomForItems(usize),
-    /// 13: the count, where it is 0, above the rows that the table holds, or less than the size of its last row, or that size is 0.
+    /// 13: the count at which no subtree ends: above the rows that the table holds, or less than the size of its last row, or that size is 0; of
+    /// [`walk`], 0 too.
     NoSubtree(usize),
+    /// 27: over [`MAX_TEXTS`] texts; their number.
+    TooManyTexts(usize),
+    /// 28: trivia above the length, or a length over [`MAX_TEXT`]; the first such index.
+    WrongText(usize),
     /// A number that this wrapper does not know, of another version of the library.
     Other(u32, usize),
 }
@@ -164,6 +207,8 @@ impl Refusal {
             Refusal::NoItem(n) => (11, n),
             Refusal::NoRoomForItems(n) => (12, n),
             Refusal::NoSubtree(n) => (13, n),
+            Refusal::TooManyTexts(n) => (27, n),
+            Refusal::WrongText(n) => (28, n),
             Refusal::Other(code, n) => (code, n),
         }
     }
@@ -183,6 +228,8 @@ impl Refusal {
             11 => Refusal::NoItem(given),
             12 => Refusal::NoRoomForItems(given),
             13 => Refusal::NoSubtree(given),
+            27 => Refusal::TooManyTexts(given),
+            28 => Refusal::WrongText(given),
             _ => Refusal::Other(code, given),
         }
     }
@@ -302,6 +349,73 @@ pub fn walk(rows: &[u32], count: usize) -> Result<Subtree, Refusal> {
     }
 }
 
+/// How much of a list of texts is trivia: [`TEXT`] words a text, as [`text_words`] gives them, for at most [`MAX_TEXTS`]; an unpaired last
+/// word is ignored. A text's share is its trivia over its length, 0 for a text of no bytes. Refusals 27, then 28.
+pub fn shares(words: &[u32]) -> Result<Shares, Refusal> {
+    let mut shares = Shares {
+        numerator: 0,
+        denominator: 0,
+        count: 0,
+        largest: [0; 3],
+    };
+    let [first, second, third] = &mut shares.largest;
+    let mut given = 0;
+    // SAFETY: as in `read`.
+    let code = unsafe {
+        vireopatch_shares(
+            words.as_ptr(),
+            words.len(),
+            &mut shares.numerator,
+            &mut shares.denominator,
+            &mut shares.count,
+            first,
+            second,
+            third,
+            &mut given,
+        )
+    };
+    match code {
+        0 => Ok(shares),
+        _ => Err(Refusal::of(code, given)),
+    }
+}
+
+/// The two words of a text from its reading, the rows and their count: the trivia bytes of its top rows, tlow to low of each and that of the
+/// end too, and its length. The numbers of the top rows are listed in `roots`, first to last; `count` words are always enough.
+///
+/// Refusals 13, 6, 28. An answer and 28 leave zeros behind the last top row; 13 leaves the table as it was, 6 zeroes it.
+pub fn text_words(
+    text: &[u8],
+    rows: &[u32],
+    count: usize,
+    roots: &mut [usize],
+) -> Result<TextWords, Refusal> {
+    let mut words = TextWords {
+        trivia: 0,
+        length: 0,
+    };
+    let mut given = 0;
+    // SAFETY: as in `read`.
+    let code = unsafe {
+        vireopatch_text_words(
+            text.as_ptr(),
+            text.len(),
+            rows.as_ptr(),
+            rows.len(),
+            count,
+            roots.as_mut_ptr(),
+            roots.len(),
+            &mut words.trivia,
+            &mut words.length,
+            &mut given,
+        )
+    };
+    match code {
+        0 => Ok(words),
+        _ => Err(Refusal::of(code, given)),
+    }
+}
+
 extern "C" {
     fn vireopatch_read(
         text: *const u8,
@@ -343,6 +457,31 @@ extern "C" {
         before: *mut usize,
         given: *mut usize,
     ) -> u32;
+
+    fn vireopatch_shares(
+        words: *const u32,
+        words_len: usize,
+        numerator: *mut u64,
+        denominator: *mut u64,
+        count: *mut usize,
+        first: *mut usize,
+        second: *mut usize,
+        third: *mut usize,
+        given: *mut usize,
+    ) -> u32;
+
+    fn vireopatch_text_words(
+        text: *const u8,
+        text_len: usize,
+        rows: *const u32,
+        rows_len: usize,
+        count: usize,
+        roots: *mut usize,
+        roots_len: usize,
+        trivia: *mut u32,
+        length: *mut u32,
+        given: *mut usize,
+    ) -> u32;
 }
 
 #[cfg(test)]
@@ -359,6 +498,64 @@ mod tests {
                 };
                 assert_eq!((code, value), (10, 0));
             }
+        }
+    }
+
+    /// Every number is set, refused or not. The safe functions keep those of a refusal back, so the calls are made without them.
+    #[test]
+    fn numbers_are_set() {
+        let lists = [
+            (&[3, 6][..], 0, [1, 2], [1, 0, 0, 0, 0]),
+            (&[0; 2002], 27, [0; 2], [0, 0, 0, 0, 1001]),
+            (&[0, 0, 1, 0], 28, [0; 2], [0, 0, 0, 0, 1]),
+        ];
+        for (words, refusal, share, sizes) in lists {
+            let (mut found, mut rest) = ([7; 2], [7; 5]);
+            let [numerator, denominator] = &mut found;
+            let [count, first, second, third, given] = &mut rest;
+            // SAFETY: as in `read`.
+            let code = unsafe {
+                super::vireopatch_shares(
+                    words.as_ptr(),
+                    words.len(),
+                    numerator,
+                    denominator,
+                    count,
+                    first,
+                    second,
+                    third,
+                    given,
+                )
+            };
+            assert_eq!((code, found, rest), (refusal, share, sizes));
+        }
+        // a row with a byte of trivia
+        let rows = [8, 1, 0, 1, 1, 0];
+        let texts = [
+            (&b" "[..], 1, 1, (0, 1, 1, 0)),
+            (b" ", 2, 1, (13, 0, 0, 2)),
+            (b" ", 1, 0, (6, 0, 0, 1)),
+            (b"", 1, 1, (28, 0, 0, 0)),
+        ];
+        for (text, count, room, wanted) in texts {
+            let mut roots = [7];
+            let (mut trivia, mut length, mut given) = (7, 7, 7);
+            // SAFETY: as in `read`.
+            let code = unsafe {
+                super::vireopatch_text_words(
+                    text.as_ptr(),
+                    text.len(),
+                    rows.as_ptr(),
+                    rows.len(),
+                    count,
+                    roots.as_mut_ptr(),
+                    room,
+                    &mut trivia,
+                    &mut length,
+                    &mut given,
+                )
+            };
+            assert_eq!((code, trivia, length, given), wanted);
         }
     }
 }

@@ -1,7 +1,8 @@
-//! Random inputs, against plain Rust: numbers, trivia runs, and walks of the rows of a text.
+//! Random inputs, against plain Rust: numbers, trivia runs, walks of the rows of a text and its words, and lists of shares.
 
 use vireopatch::{
-    enough, item, items, read, value, walk, NumberType, Refusal, State, ITEM, MAX_LEVEL, ROW,
+    enough, item, items, read, shares, text_words, value, walk, NumberType, Refusal, Shares, State,
+    TextWords, ITEM, MAX_LEVEL, MAX_TEXT, MAX_TEXTS, ROW, TEXT,
 };
 
 /// SplitMix64.
@@ -160,7 +161,7 @@ fn trivia_runs() {
     assert!(answered > 10_000, "{answered}");
 }
 
-/// Top rows cover the text; the trivia before each is one run of items.
+/// Top rows cover the text; the trivia before each is one run of items, and all of it is the first word of the text.
 #[test]
 fn walks() {
     let pieces = [
@@ -184,6 +185,7 @@ fn walks() {
         )
         .unwrap();
         let (mut count, mut low) = (reading.rows, text.len());
+        let (mut trivia, mut tops) = (0, vec![]);
         while count > 0 {
             let subtree = walk(&rows, count).unwrap();
             let row = &rows[subtree.root * ROW..][..ROW];
@@ -196,7 +198,100 @@ fn walks() {
             let mut table = vec![7; enough::item_words(run.len())];
             assert!(items(run, &mut table).is_ok(), "{run:?}");
             (count, low) = (subtree.before, row[2] as usize);
+            trivia += run.len() as u32;
+            tops.insert(0, subtree.root);
         }
         assert_eq!(low, 0, "{text:?}");
+        let mut roots = vec![7; rng.below(tops.len() + 3)];
+        let answer = text_words(&text, &rows, reading.rows, &mut roots);
+        if roots.len() < tops.len() {
+            assert_eq!(answer, Err(Refusal::NoRoomForRows(tops.len())), "{text:?}");
+            assert!(roots.iter().all(|r| *r == 0));
+        } else {
+            let length = text.len() as u32;
+            assert_eq!(answer, Ok(TextWords { trivia, length }), "{text:?}");
+            tops.resize(roots.len(), 0);
+            assert_eq!(roots, tops, "{text:?}");
+        }
     }
+}
+
+fn gcd(a: u128, b: u128) -> u128 {
+    match b {
+        0 => a,
+        _ => gcd(b, a % b),
+    }
+}
+
+/// Plain sums, their common divisor, and all texts sorted by cross products.
+fn rust_shares(words: &[u32]) -> Result<Shares, Refusal> {
+    let texts: Vec<(u128, u128)> = words
+        .chunks_exact(TEXT)
+        .map(|t| (t[0] as u128, t[1] as u128))
+        .collect();
+    if texts.len() > MAX_TEXTS {
+        return Err(Refusal::TooManyTexts(texts.len()));
+    }
+    let wrong = |(trivia, length): &(u128, u128)| trivia > length || *length > MAX_TEXT as u128;
+    if let Some(i) = texts.iter().position(wrong) {
+        return Err(Refusal::WrongText(i));
+    }
+    let trivia: u128 = texts.iter().map(|t| t.0).sum();
+    let length: u128 = texts.iter().map(|t| t.1).sum();
+    let (numerator, denominator) = match gcd(trivia, length) {
+        0 => (0, 1),
+        d => ((trivia / d) as u64, (length / d) as u64),
+    };
+    let mut order: Vec<usize> = (0..texts.len()).collect();
+    // A stable sort, so equal shares keep the order of their indexes.
+    order.sort_by(|i, j| {
+        let ((a, b), (c, d)) = (texts[*i], texts[*j]);
+        (c * b.max(1)).cmp(&(a * d.max(1)))
+    });
+    let count = order.len().min(3);
+    order.truncate(3);
+    order.resize(3, 0);
+    Ok(Shares {
+        numerator,
+        denominator,
+        count,
+        largest: [order[0], order[1], order[2]],
+    })
+}
+
+#[test]
+fn share_lists() {
+    let mut rng = Rng(4);
+    let (mut answered, mut wrong) = (0, 0);
+    for turn in 0..20_000 {
+        let texts = match turn % 200 {
+            0 => 990 + rng.below(20),
+            _ => rng.below(12),
+        };
+        let most = [3, 10, 1000, MAX_TEXT][rng.below(4)];
+        // one text in so many is wrong
+        let rare = [10, 5000][rng.below(2)];
+        let mut words = vec![];
+        for _ in 0..texts {
+            let length = rng.below(most + 1);
+            let trivia = rng.below(length + 1);
+            words.extend(match rng.below(3 * rare) {
+                0 => [(length + 1) as u32, length as u32],
+                1 => [trivia as u32, (MAX_TEXT + 1 + rng.below(9)) as u32],
+                2 => [
+                    u32::MAX - rng.below(9) as u32,
+                    u32::MAX - rng.below(9) as u32,
+                ],
+                _ => [trivia as u32, length as u32],
+            });
+        }
+        if rng.below(4) == 0 {
+            words.push(u32::MAX);
+        }
+        let wanted = rust_shares(&words);
+        answered += wanted.is_ok() as usize;
+        wrong += matches!(wanted, Err(Refusal::WrongText(_))) as usize;
+        assert_eq!(shares(&words), wanted, "{words:?}");
+    }
+    assert!(answered > 10_000 && wrong > 1_000, "{answered}, {wrong}");
 }

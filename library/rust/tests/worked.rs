@@ -1,8 +1,9 @@
-//! Document 01's worked texts, and its refusals.
+//! Document 01's worked texts, and its refusals; the shares of document 02 (F-14).
 
 use vireopatch::{
-    detail, enough, item, items, kind, read, value, walk, NumberType, Reading, Refusal, State,
-    Subtree, ERROR, ITEM, MAX_LEVEL, REQUEST, ROW,
+    detail, enough, item, items, kind, read, shares, text_words, value, walk, NumberType, Reading,
+    Refusal, Shares, State, Subtree, TextWords, ERROR, ITEM, MAX_LEVEL, MAX_TEXT, MAX_TEXTS,
+    REQUEST, ROW, TEXT,
 };
 
 struct Tables {
@@ -303,4 +304,132 @@ fn walks() {
     assert_eq!(walk(&words, 9), Err(Refusal::NoSubtree(9)));
     assert_eq!(walk(&words[..47], 8), Err(Refusal::NoSubtree(8)));
     assert_eq!(walk(&[0; 6], 1), Err(Refusal::NoSubtree(1)));
+}
+
+/// The share, and the indexes that are there; absent ones are 0.
+fn shared(words: &[u32]) -> Result<(u64, u64, Vec<usize>), Refusal> {
+    let found = shares(words)?;
+    assert!(found.largest[found.count..].iter().all(|i| *i == 0));
+    let largest = found.indexes().to_vec();
+    Ok((found.numerator, found.denominator, largest))
+}
+
+#[test]
+fn shares_of_lists() {
+    assert_eq!(shared(&[]), Ok((0, 1, vec![])));
+    assert_eq!(shared(&[u32::MAX]), Ok((0, 1, vec![])), "unpaired");
+    assert_eq!(shared(&[0, 0]), Ok((0, 1, vec![0])));
+    assert_eq!(shared(&[0, 4, 0, 0]), Ok((0, 1, vec![0, 1])));
+    assert_eq!(shared(&[7, 7]), Ok((1, 1, vec![0])));
+    assert_eq!(shared(&[6, 12, 9]), Ok((1, 2, vec![0])), "unpaired");
+    assert_eq!(shared(&[1, 9, 2, 9]), Ok((1, 6, vec![1, 0])));
+    // 1/3, 2/6, 2/4 and 1/3 again
+    let words = [1, 3, 2, 6, 2, 4, 3, 9];
+    assert_eq!(shared(&words), Ok((4, 11, vec![2, 0, 1])));
+    // a text of no bytes is behind one with trivia, and before a later one without
+    assert_eq!(shared(&[0, 0, 0, 5, 1, 5]), Ok((1, 10, vec![2, 0, 1])));
+    let found = Shares {
+        numerator: 4,
+        denominator: 11,
+        count: 3,
+        largest: [2, 0, 1],
+    };
+    assert_eq!(shares(&words), Ok(found));
+}
+
+/// Shares that differ by about one in 2^32.
+#[test]
+fn close_shares() {
+    let words = [65_534, 65_535, 65_535, 65_536, 65_533, 65_534];
+    assert_eq!(shared(&words), Ok((65_534, 65_535, vec![1, 0, 2])));
+}
+
+#[test]
+fn refused_lists() {
+    let most = MAX_TEXT as u32;
+    assert_eq!(shared(&[most, most]), Ok((1, 1, vec![0])));
+    assert_eq!(shared(&[0, most + 1]), Err(Refusal::WrongText(0)));
+    assert_eq!(shared(&[0, 1, 1, 0]), Err(Refusal::WrongText(1)));
+    let wrong = [1, 1, 0, u32::MAX, 9, 8];
+    assert_eq!(shared(&wrong), Err(Refusal::WrongText(1)), "the first");
+    // 27 before 28, and by whole texts
+    let mut words = vec![1; (MAX_TEXTS + 1) * TEXT];
+    words[1] = 0;
+    assert_eq!(shared(&words), Err(Refusal::TooManyTexts(1001)));
+    words.pop();
+    assert_eq!(shared(&words), Err(Refusal::WrongText(0)));
+    words[1] = 1;
+    assert_eq!(shared(&words), Ok((1, 1, vec![0, 1, 2])));
+    assert_eq!(Refusal::TooManyTexts(1001).numbers(), (27, 1001));
+    assert_eq!(Refusal::WrongText(0).numbers(), (28, 0));
+}
+
+/// A text's two words with room for so many top rows, and the table afterwards.
+fn words_in(
+    text: &[u8],
+    rows: &[u32],
+    count: usize,
+    room: usize,
+) -> (Result<(u32, u32), Refusal>, Vec<usize>) {
+    let mut roots = vec![7; room];
+    let words = text_words(text, rows, count, &mut roots);
+    (words.map(|w| (w.trivia, w.length)), roots)
+}
+
+#[test]
+fn words_of_texts() {
+    let text = b"lda  1 // x\n";
+    let t = tables("lda  1 // x\n");
+    let rows: Vec<u32> = t.rows.iter().flatten().copied().collect();
+    assert_eq!(t.rows.len(), 8, "the instruction is row 6, the end row 7");
+    let words = TextWords {
+        trivia: 6,
+        length: 12,
+    };
+    assert_eq!(text_words(text, &rows, 8, &mut [7; 2]), Ok(words));
+    let (answer, no_room) = (Ok((6, 12)), Err(Refusal::NoRoomForRows(2)));
+    assert_eq!(words_in(text, &rows, 8, 2), (answer, vec![6, 7]));
+    assert_eq!(words_in(text, &rows, 8, 4), (answer, vec![6, 7, 0, 0]));
+    assert_eq!(words_in(text, &rows, 8, 1), (no_room, vec![0]));
+    assert_eq!(words_in(text, &rows, 8, 0), (no_room, vec![]));
+    // the instruction alone, and no row at all: what the count says
+    assert_eq!(words_in(text, &rows, 7, 2), (Ok((0, 12)), vec![6, 0]));
+    assert_eq!(words_in(text, &rows, 0, 2), (Ok((0, 12)), vec![0, 0]));
+    assert_eq!(words_in(b"", &[], 0, 0), (Ok((0, 0)), vec![]));
+}
+
+#[test]
+fn refused_words_of_texts() {
+    let row = |size, tlow, low| [kind::ERROR, size, tlow, low, low, 0];
+    let two = |first: [u32; ROW], second: [u32; ROW]| [first, second].concat();
+    // 13 gives the count at which no subtree ends, and leaves the table; it comes before 6 and 28
+    let text = b"abc";
+    let rows = two(row(1, 0, 2), row(1, 2, 3));
+    let no_subtree = |count| (Err(Refusal::NoSubtree(count)), vec![7; 3]);
+    assert_eq!(words_in(text, &rows, 2, 3), (Ok((3, 3)), vec![0, 1, 0]));
+    assert_eq!(words_in(text, &rows, 3, 3), no_subtree(3));
+    assert_eq!(words_in(text, &rows[..11], 2, 3), no_subtree(2));
+    assert_eq!(words_in(text, &rows, usize::MAX, 3), no_subtree(usize::MAX));
+    let rows = two(row(0, 0, 9), row(1, 0, 9));
+    assert_eq!(words_in(text, &rows, 2, 3), no_subtree(1));
+    assert_eq!(words_in(text, &rows, 2, 0).0, no_subtree(1).0);
+    let rows = two(row(1, 0, 0), row(3, 0, 0));
+    assert_eq!(words_in(text, &rows, 2, 3), no_subtree(2));
+    // 28 gives 0, and lists the top rows; 6 comes before it
+    let wrong = Err(Refusal::WrongText(0));
+    let rows = two(row(1, 0, 2), row(1, 1, 3));
+    assert_eq!(words_in(text, &rows, 2, 3), (wrong, vec![0, 1, 0]));
+    let no_room = Err(Refusal::NoRoomForRows(2));
+    assert_eq!(words_in(text, &rows, 2, 1), (no_room, vec![0]));
+    assert_eq!(words_in(b"abcd", &rows, 2, 2), (Ok((4, 4)), vec![0, 1]));
+    let rows = two(row(1, 0, u32::MAX), row(1, 0, u32::MAX));
+    assert_eq!(words_in(text, &rows, 2, 2), (wrong, vec![0, 1]));
+    let long = vec![b' '; MAX_TEXT + 1];
+    let rows = two(row(1, 0, 0), row(2, 0, 1));
+    assert_eq!(words_in(&long, &rows, 2, 2), (wrong, vec![1, 0]));
+    let longest = Ok((1, MAX_TEXT as u32));
+    assert_eq!(words_in(&long[1..], &rows, 2, 2), (longest, vec![1, 0]));
+    // a row whose low is before its tlow has no trivia
+    let rows = two(row(1, 3, 1), row(1, 1, 2));
+    assert_eq!(words_in(text, &rows, 2, 2), (Ok((1, 3)), vec![0, 1]));
 }

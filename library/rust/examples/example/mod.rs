@@ -1,11 +1,12 @@
-//! What the examples share: the text that they are called with, and its reading as a first text, in tables that are always enough.
+//! What the examples share: a text that they are called with, and its reading as a first text, in tables that are always enough.
 
 use std::io::Read;
+use std::path::Path;
 use std::process::exit;
-use vireopatch::{enough, read, Reading, State, MAX_LEVEL, MAX_TEXT};
+use vireopatch::{enough, read, Reading, Refusal, State, MAX_LEVEL, MAX_TEXT};
 
-fn text() -> std::io::Result<Vec<u8>> {
-    match std::env::args_os().nth(1) {
+fn text(file: Option<impl AsRef<Path>>) -> std::io::Result<Vec<u8>> {
+    match file {
         Some(name) => std::fs::read(name),
         None => {
             let mut text = vec![];
@@ -15,10 +16,20 @@ fn text() -> std::io::Result<Vec<u8>> {
     }
 }
 
-/// The text of the file that is named, or of standard input; the tables of rows, errors and requests; the counts and the end state. Without
+/// Prints a refusal, and ends the program with status 1.
+pub fn refused(refusal: Refusal) -> ! {
+    let (number, given) = refusal.numbers();
+    println!("refusal number\n{number} {given}");
+    exit(1)
+}
+
+/// The text of a file, or of standard input if there is none; the tables of rows, errors and requests; the counts and the end state. Without
 /// a text the program ends with status 2; where the text is refused it prints the refusal and ends with status 1.
-pub fn read_text(example: &str) -> (Vec<u8>, [Vec<u32>; 3], Reading) {
-    let text = text().unwrap_or_else(|e| {
+pub fn read_text(
+    example: &str,
+    file: Option<impl AsRef<Path>>,
+) -> (Vec<u8>, [Vec<u32>; 3], Reading) {
+    let text = text(file).unwrap_or_else(|e| {
         eprintln!("{example}: {e}");
         exit(2)
     });
@@ -40,10 +51,6 @@ pub fn read_text(example: &str) -> (Vec<u8>, [Vec<u32>; 3], Reading) {
         &mut requests,
     ) {
         Ok(reading) => (text, [rows, errors, requests], reading),
-        Err(refusal) => {
-            let (number, given) = refusal.numbers();
-            println!("refusal number\n{number} {given}");
-            exit(1)
-        }
+        Err(refusal) => refused(refusal),
     }
 }
