@@ -3,16 +3,16 @@ use mathlib.Core.Path.{_≡_, refl, ap, sym, subst, _∙_}
 use mathlib.Core.Bool.{Bool, true, false, _||_, cond, or-true, true≢false}
 use mathlib.Core.List.{List, [], _∷_}
 use mathlib.Core.Option.{Option, none, some}
-use Prim.Native.Nat.{ℕ, zero, suc, _+_, _*_, _/_, min, _≤_, _<_}
+use Prim.Native.Nat.{ℕ, zero, suc, _*_, _/_, min, _≤_, _<_}
 use native.Mathlib.Omega.{arith}
-use native.Mathlib.Nat.{eq-one-of-dvd-one, mul-div-cancel', mul-assoc, mul-comm, mul-right-comm, mul-pos, eq-of-mul-eq-mul-right}
-use borrow.Author.Tests.{eq-eqb, eqb-true, ltb-true, ltb-false, le-ltb}
+use native.Mathlib.Nat.{eq-one-of-dvd-one, mul-div-cancel', mul-assoc, mul-comm, mul-right-comm, eq-of-mul-eq-mul-right}
+use borrow.Author.Tests.{eq-eqb, eqb-true, ltb-true, ltb-false}
 use lib.Dec.{ltb, eqb}
-use lib.ListN.{length, take, getD, length-take}
-use Rattle.reading.specs.Table.{Answer}
+use lib.ListN.{length, getD, length-take}
+use Rattle.reading.specs.Table.{Answer, max-text}
 use Rattle.share.specs.Answers.{told}
-use Rattle.share.specs.Claims.{all-trivia, all-bytes, Lowest, Equal, Ordered, Out, listed, Answered, Refused, too-many as more-texts, wrong-text, Claimed}
-use Rattle.share.specs.Shares.{Fraction, Shares, max-texts, texts, trivia-of, length-of, wrong, or-else, first-wrong, sum, gcd, share, larger, ahead, ranked, shares-of, pooled, largest, shares}
+use Rattle.share.specs.Claims.{all-trivia, all-bytes, Lowest, Ordered, Out, listed, Answered, too-many as more-texts, wrong-text, Claimed}
+use Rattle.share.specs.Shares.{Fraction, Shares, max-texts, texts, trivia-of, length-of, wrong, or-else, first-wrong, sum, gcd, share, ahead, ranked, shares-of, pooled, largest, shares}
 use Rattle.share.specs.Steps.{All}
 use Rattle.share.specs.declared.SharesAnswer.{SharesAnswer}
 use Rattle.share.proofs.Divisors.{Gcd, gcd-known, gcd-positive, reduced-lowest, lowest-one, none-of, share-none, share-some, some-left}
@@ -80,7 +80,7 @@ only-one a b x u h p q e l = lowest-one (x .numerator) (x .denominator) p q (u .
 right : (t l : ℕ) → wrong t l ≡ false → t ≤ l
 right t l e = go (ltb l t) refl e
   where
-    go : (b : Bool) → ltb l t ≡ b → b || ltb 65536 l ≡ false → t ≤ l
+    go : (b : Bool) → ltb l t ≡ b → b || ltb max-text l ≡ false → t ≤ l
     go true q e = absurd (true≢false e)
     go false q e = ltb-false l t q
 

@@ -1,12 +1,12 @@
 -- Common divisors: what the definition's greatest one is, and why a fraction in lowest terms is the only one of its value.
 use mathlib.Core.Path.{_≡_, refl, ap, sym, subst, _∙_}
 use mathlib.Core.Bool.{Bool, true, false, _&&_, _||_, cond, true≢false}
-use mathlib.Core.Logic.{∥∥₁-map}
 use Prim.Native.Nat.{ℕ, zero, suc, _+_, _*_, _-_, _/_, _%_, _≤_, _<_, _∣_}
 use native.Mathlib.Omega.{arith}
-use native.Mathlib.Nat.{mod-lt, dvd-refl, dvd-zero, one-dvd, dvd-mod-iff, dvd-mul-right, dvd-mul-left-of-dvd, dvd-mul-right-of-dvd, dvd-add-iff-right, le-of-dvd, dvd-antisymm, pos-of-dvd-of-pos, eq-one-of-dvd-one, mod-eq-zero-of-dvd, dvd-of-mod-eq-zero, mul-div-cancel', mul-dvd-mul-left, dvd-of-mul-dvd-mul-left, eq-of-mul-eq-mul-left, eq-of-mul-eq-mul-right, mul-assoc, mul-comm, mul-one, add-mul, mul-sub, div-add-mod}
-use borrow.Author.Tests.{eq-eqb, ne-eqb, eqb-true}
+use native.Mathlib.Nat.{mod-lt, dvd-refl, dvd-zero, one-dvd, dvd-mod-iff, le-of-dvd, dvd-antisymm, pos-of-dvd-of-pos, eq-one-of-dvd-one, mod-eq-zero-of-dvd, dvd-of-mod-eq-zero, mul-div-cancel', mul-dvd-mul-left, dvd-of-mul-dvd-mul-left, eq-of-mul-eq-mul-right, mul-assoc, mul-comm, mul-one, add-mul, mul-sub, div-add-mod}
+use borrow.Author.Tests.{eq-eqb, eqb-true}
 use lib.Dec.{eqb}
+use Rattle.share.specs.Claims.{Lowest}
 use Rattle.share.specs.Shares.{divides, greatest, gcd, share}
 
 -- The greatest ----------------------------------------------------------------
@@ -98,18 +98,14 @@ gcd-known a b p =
 -- Lowest terms ----------------------------------------------------------------
 
 -- divided by it, two numbers have no common divisor but 1
-pub reduced-lowest : (a b g : ℕ) → 0 < g → Gcd a b g → (d : ℕ) → d ∣ a / g → d ∣ b / g → d ≡ 1
+pub reduced-lowest : (a b g : ℕ) → 0 < g → Gcd a b g → Lowest (a / g) (b / g)
 reduced-lowest a b g p u d h k =
     let l : g * d ∣ a = subst (λ (n : ℕ). g * d ∣ n) (mul-div-cancel' g (u .left)) (mul-dvd-mul-left d g h) in
     let r : g * d ∣ b = subst (λ (n : ℕ). g * d ∣ n) (mul-div-cancel' g (u .right)) (mul-dvd-mul-left d g k) in
     let e : g * d ∣ g * 1 = subst (λ (n : ℕ). g * d ∣ n) (sym (mul-one g)) (u .all (g * d) l r) in
     eq-one-of-dvd-one (dvd-of-mul-dvd-mul-left d p e)
 
--- no common divisor but 1
-abbrev Coprime : ℕ → ℕ → Type 0
-Coprime p q = (d : ℕ) → d ∣ p → d ∣ q → d ≡ 1
-
-none-but-one : (q x : ℕ) → Coprime 0 q → q ∣ x
+none-but-one : (q x : ℕ) → Lowest 0 q → q ∣ x
 none-but-one q x c = subst (λ (d : ℕ). d ∣ x) (sym (c q (dvd-zero q) (dvd-refl q))) (one-dvd x)
 
 rest-of : (p q x m : ℕ) → p * x ≡ q * m → q % p * m ≡ p * (x - q / p * m)
@@ -118,11 +114,11 @@ rest-of p q x m e =
     omega (arith, u, e, mul-sub p x (q / p * m), mul-assoc p (q / p) m)
 
 -- Gauss's lemma: q divides p x, and has no common divisor with p, so it divides x
-gauss : (n p q x m : ℕ) → p ≤ n → Coprime p q → p * x ≡ q * m → q ∣ x
-gauss zero p q x m h c e = none-but-one q x (subst (λ (k : ℕ). Coprime k q) (omega arith) c)
+gauss : (n p q x m : ℕ) → p ≤ n → Lowest p q → p * x ≡ q * m → q ∣ x
+gauss zero p q x m h c e = none-but-one q x (subst (λ (k : ℕ). Lowest k q) (omega arith) c)
 gauss (suc n) p q x m h c e = go p h c e (λ p r y l d f. gauss n r p m y l d f)
   where
-    go : (p : ℕ) → p ≤ suc n → Coprime p q → p * x ≡ q * m → ((p r y : ℕ) → r ≤ n → Coprime r p → r * m ≡ p * y → p ∣ m) → q ∣ x
+    go : (p : ℕ) → p ≤ suc n → Lowest p q → p * x ≡ q * m → ((p r y : ℕ) → r ≤ n → Lowest r p → r * m ≡ p * y → p ∣ m) → q ∣ x
     go zero h c e f = none-but-one q x c
     go (suc p) h c e f =
         let l : suc p ∣ m =
@@ -133,7 +129,7 @@ gauss (suc n) p q x m h c e = go p h c e (λ p r y l d f. gauss n r p m y l d f)
         dvd-of-mul-dvd-mul-left q (omega arith) i
 
 -- two fractions in lowest terms of one value are one
-pub lowest-one : (p q x y : ℕ) → 0 < q → Coprime p q → Coprime x y → p * y ≡ x * q → (x ≡ p) × (y ≡ q)
+pub lowest-one : (p q x y : ℕ) → 0 < q → Lowest p q → Lowest x y → p * y ≡ x * q → (x ≡ p) × (y ≡ q)
 lowest-one p q x y h c d e =
     let i : q ∣ y = gauss p p q y x (omega arith) c (e ∙ mul-comm x q) in
     let j : y ∣ q = gauss x x y q p (omega arith) d (sym e ∙ mul-comm p y) in

@@ -1,15 +1,15 @@
 -- The order of texts by share and then index: it is total and transitive, so the list of all texts is in order, and has each of them.
-use mathlib.Core.Path.{_≡_, refl, ap, sym, subst, _∙_}
+use mathlib.Core.Path.{_≡_, refl, sym, subst}
 use mathlib.Core.Bool.{Bool, true, false, not, _&&_, _||_, cond, or-true, true≢false}
 use mathlib.Core.List.{List, [], _∷_}
-use Prim.Native.Nat.{ℕ, zero, suc, _*_, max, _≤_, _<_}
+use Prim.Native.Nat.{ℕ, zero, suc, _*_, _≤_, _<_}
 use native.Mathlib.Omega.{arith}
 use native.Mathlib.Nat.{mul-le-mul-right, mul-lt-mul-of-pos-right, mul-right-comm, le-of-mul-le-mul-right, lt-of-mul-lt-mul-right}
 use borrow.Author.Tests.{lt-ltb, le-ltb, ltb-true, ltb-false}
 use lib.Dec.{ltb}
 use lib.ListN.{take}
 use Rattle.share.specs.Claims.{Ordered, none, more, Out}
-use Rattle.share.specs.Shares.{trivia-of, length-of, over, larger, ahead, placed, ranked}
+use Rattle.share.specs.Shares.{trivia-of, over, larger, ahead, placed, ranked}
 use Rattle.share.specs.Steps.{All, none as nothing, more as another, Before}
 use Rattle.share.proofs.Ranks.{ranked-before, take-all}
 

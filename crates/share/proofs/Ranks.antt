@@ -1,6 +1,6 @@
 -- The three largest, one text after another: of the texts in order the front alone is kept.
 use mathlib.Core.Path.{_≡_, refl, ap, sym, subst, _∙_}
-use mathlib.Core.Bool.{Bool, true, false, not, _&&_, _||_, cond, and-false, or-false, true≢false}
+use mathlib.Core.Bool.{Bool, true, false, not, _||_, cond, and-false, or-false, true≢false}
 use mathlib.Core.List.{List, [], _∷_}
 use Prim.Native.Nat.{ℕ, zero, suc, _+_, min, _≤_, _<_}
 use native.Mathlib.Omega.{arith}

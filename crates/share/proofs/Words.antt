@@ -8,7 +8,7 @@ use borrow.Author.Tests.{lt-ltb, le-ltb, ltb-false}
 use lib.Dec.{ltb, eqb}
 use lib.ListN.{length, getD, length-append}
 use Rattle.reading.specs.Items.{Listed}
-use Rattle.reading.specs.Table.{Answer, answered, refused, room, row-width, zeros, filled}
+use Rattle.reading.specs.Table.{Answer, answered, refused, max-text, room, row-width, filled}
 use Rattle.reading.specs.Walk.{Subtree, walk, size-at}
 use Rattle.rows.specs.Answers.{told-tops, listed}
 use Rattle.rows.specs.declared.TopsAnswer.{TopsAnswer}
@@ -92,17 +92,17 @@ module _ (text rows roots after : List ℕ) (count : ℕ) where
     unfolding text-words
     told-answer a h = ap words-told h ∙ ap (told-over rows (length text)) e
 
-    pub too-long : 65536 < length text → words-told (refused 28 0) ≡ text-words text rows count roots
-    too-long h = told-answer (refused 28 0) (rw (lt-ltb 65536 (length text) h, or-true (ltb (length text) total)))
+    pub too-long : max-text < length text → words-told (refused 28 0) ≡ text-words text rows count roots
+    too-long h = told-answer (refused 28 0) (rw (lt-ltb max-text (length text) h, or-true (ltb (length text) total)))
 
     module _ (trivia : ℕ) (t : trivia ≡ min total (suc (length text))) where
       pub too-much : length text < trivia → words-told (refused 28 0) ≡ text-words text rows count roots
       too-much h = told-answer (refused 28 0) (rw (lt-ltb (length text) total (omega (arith, t))))
 
-      pub words-known : length text ≤ 65536 → trivia ≤ length text → words-told (answered (record { trivia = trivia; length = length text })) ≡ text-words text rows count roots
+      pub words-known : length text ≤ max-text → trivia ≤ length text → words-told (answered (record { trivia = trivia; length = length text })) ≡ text-words text rows count roots
       words-known h k =
           let u : trivia ≡ total = omega (arith, t) in
-          told-answer _ (rw (le-ltb (length text) total (omega (arith, t)), le-ltb 65536 (length text) h) (ap (λ (m : ℕ). answered (record { trivia = m; length = length text })) u))
+          told-answer _ (rw (le-ltb (length text) total (omega (arith, t)), le-ltb max-text (length text) h) (ap (λ (m : ℕ). answered (record { trivia = m; length = length text })) u))
 
 -- what is answered is never refused with 28
 pub words-right : (text rows roots : List ℕ) (count : ℕ) (x : Text) → text-words text rows count roots .answer ≡ answered x → wrong (x .trivia) (x .length) ≡ false

@@ -15,7 +15,6 @@ use Rattle.share.specs.declared.Largest.{Largest}
 use Rattle.share.specs.declared.SharesFound.{SharesFound}
 use Rattle.share.specs.declared.SharesAnswer.{SharesAnswer}
 use Rattle.share.specs.declared.SharesAnswer.the-variants.{Found, TooManyTexts, WrongText}
-use Rattle.share.specs.declared.TextWords.{TextWords}
 use Rattle.share.specs.declared.TextAnswer.{TextAnswer}
 use Rattle.share.specs.declared.TextAnswer.the-variants.{Words as words, NoSubtree, NoRoom, WrongText as wrong-text}
 

@@ -1,5 +1,5 @@
 -- How much of a list of texts is trivia, and which texts have most of it: document 02, F-14.
-use mathlib.Core.Bool.{Bool, true, false, not, _&&_, _||_, cond}
+use mathlib.Core.Bool.{Bool, not, _&&_, _||_, cond}
 use mathlib.Core.List.{List, [], _∷_}
 use mathlib.Core.Option.{Option, none, some}
 use Prim.Native.Nat.{ℕ, zero, suc, _+_, _*_, _/_, _%_, max}
@@ -12,12 +12,17 @@ use Rattle.reading.specs.Table.{Answer, answered, refused, Test, when, found, f
 abbrev pub max-texts : ℕ
 max-texts = 1000
 
--- two words a text, its trivia bytes and its length; an unpaired last word is ignored
-abbrev pub texts : List ℕ → ℕ
-texts w = room 2 w
+-- two words a text, its trivia bytes and its length
+abbrev pub text-width : ℕ
+text-width = 2
 
+-- an unpaired last word is ignored
+abbrev pub texts : List ℕ → ℕ
+texts w = room text-width w
+
+-- the texts are numbered from 0
 abbrev pub word-of : List ℕ → ℕ → ℕ → ℕ
-word-of w c i = getD w (i * 2 + c) 0
+word-of w c i = getD w (i * text-width + c) 0
 
 abbrev pub trivia-of : List ℕ → ℕ → ℕ
 trivia-of w = word-of w 0

@@ -6,9 +6,9 @@ use table::column;
 ghost use mathlib.Core.Path.{_≡_};
 ghost use Prim.Native.Nat.{ℕ, suc, _+_, _^_, _≤_, _<_, min, max};
 ghost use lib.ListN.{length, take, getD};
-ghost use Rattle.reading.specs.Table.{room, row-width};
+ghost use Rattle.reading.specs.Table.{max-text, room, row-width};
 ghost use Rattle.share.specs.Answers.{fraction, told, told-words, largest-of, With, below};
-ghost use Rattle.share.specs.Shares.{texts, word-of, wrong, first-wrong, sum, gcd, share, larger, placed, ranked, shares};
+ghost use Rattle.share.specs.Shares.{max-texts, text-width, texts, word-of, wrong, first-wrong, sum, gcd, share, larger, ranked, shares};
 ghost use Rattle.share.specs.Words.{trivia-at, text-words};
 
 pub const MAX_TEXTS: usize = 1000;
@@ -50,7 +50,7 @@ struct Largest {
 }
 
 fn word(words: &[u32], column: usize, i: usize) -> u64
-    requires { ⌜ (column < 2) × (i < texts (now words)) ⌝ }
+    requires { ⌜ (column < text-width) × (i < texts (now words)) ⌝ }
     ensures { λ r. ⌜ (r ≡ word-of (now (words .entry)) column i) × (r < 2 ^ 32) ⌝ }
 {
     words[i * TEXT + column] as u64
@@ -81,7 +81,7 @@ fn first_wrong(words: &[u32], n: usize) -> usize
 
 // The trivia of all texts, or their lengths.
 fn pooled(words: &[u32], column: usize, n: usize) -> u64
-    requires { ⌜ (column < 2) × (n ≤ texts (now words)) × (n ≤ 1000) ⌝ }
+    requires { ⌜ (column < text-width) × (n ≤ texts (now words)) × (n ≤ max-texts) ⌝ }
     ensures { λ r. ⌜ r ≡ sum (word-of (now (words .entry)) column) n ⌝ }
 {
     let mut total: u64 = 0;
@@ -261,7 +261,7 @@ fn trivia_at(rows: &[u32], row: usize) -> usize
 
 // The trivia bytes of n listed rows, counted as far as one more than so many bytes.
 fn top_trivia(rows: &[u32], roots: &[usize], n: usize, bytes: usize) -> usize
-    requires { ⌜ (n ≤ length (now roots)) × ((k : ℕ) → k < n → getD (now roots) k 0 < room row-width (now rows)) × (bytes ≤ 65536) ⌝ }
+    requires { ⌜ (n ≤ length (now roots)) × ((k : ℕ) → k < n → getD (now roots) k 0 < room row-width (now rows)) × (bytes ≤ max-text) ⌝ }
     ensures { λ r. ⌜ r ≡ min (sum (λ k. trivia-at (now (rows .entry)) (getD (now (roots .entry)) k 0)) n) (suc bytes) ⌝ }
 {
     let mut total: usize = 0;

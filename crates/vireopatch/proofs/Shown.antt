@@ -24,7 +24,7 @@ use Rattle.trivia.specs.declared.ItemsAnswer.the-variants.{Count, TooLong as to
 use Rattle.table.specs.Answers.{told as walk-told}
 use Rattle.table.specs.declared.Walked.{Walked}
 use Rattle.table.specs.declared.Walked.the-variants.{Subtree as subtree, NoSubtree}
-use Rattle.share.specs.Answers.{told as shares-told, told-text, told-words}
+use Rattle.share.specs.Answers.{told as shares-told, told-words}
 use Rattle.share.specs.Shares.{Shares}
 use Rattle.share.specs.Words.{Told}
 use Rattle.share.specs.declared.SharesAnswer.{SharesAnswer}

@@ -1,3 +1,4 @@
+-- The invariant: none of the texts looked at is wrong.
 use mathlib.Core.Path.{_≡_, sym, _∙_}
 use mathlib.Core.Option.{none}
 use Prim.Native.Nat.{_-_, _≤_}

@@ -1,3 +1,4 @@
+-- The invariant: the two numbers have the common divisors that the sums have. At the end one is 0, so the other is the greatest.
 use mathlib.Core.Path.{sym}
 use native.Mathlib.Omega.{arith}
 use native.Mathlib.Nat.{mod-lt}

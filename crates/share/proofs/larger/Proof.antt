@@ -1,3 +1,4 @@
+-- The products are those of the definition, and none is too large.
 use native.Mathlib.Omega.{arith}
 use borrow.Author.Needs.{needs}
 use Rattle.share.proofs.Pool.{product, larger-is}

@@ -1,7 +1,7 @@
+-- The invariant: the sum so far, which each text raises by less than 2^32.
 use mathlib.Core.Path.{_≡_, sym}
 use Prim.Native.Nat.{_*_, _-_, _≤_}
 use native.Mathlib.Omega.{arith}
-use borrow.Author.Needs.{needs}
 use Rattle.share.specs.Shares.{sum, word-of}
 use Rattle.share.proofs.Pool.{sum-none, sum-next, sum-all}
 use Rattle.share.proofs.pooled.Statement.{statement}

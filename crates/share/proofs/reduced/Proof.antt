@@ -1,3 +1,4 @@
+-- A case for each fraction of the definition.
 use borrow.Author.Needs.{needs}
 use Rattle.share.proofs.Divisors.{share-none, share-some, some-left}
 use Rattle.share.proofs.reduced.Statement.{statement}

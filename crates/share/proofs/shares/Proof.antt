@@ -1,3 +1,4 @@
+-- A case for each answer: the tests that led to it are those of the definition.
 use borrow.Author.Needs.{needs}
 use Rattle.share.proofs.Tests.{too-many, wrong-found, all-found}
 use Rattle.share.proofs.shares.Statement.{statement}

@@ -1,3 +1,4 @@
+-- A case for each answer. What `tops` lists are rows of the table, so their trivia can be read.
 use borrow.Author.Needs.{needs}
 use Rattle.share.proofs.Words.{tops-told, tops-inside, tops-refused, too-long, too-much, words-known}
 use Rattle.share.proofs.text_words.Statement.{statement}

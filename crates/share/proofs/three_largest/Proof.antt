@@ -1,3 +1,4 @@
+-- The invariant: the three largest of the texts looked at.
 use Prim.Native.Nat.{_-_, _≤_}
 use native.Mathlib.Omega.{arith}
 use Rattle.share.proofs.Ranks.{Held, held-none, held-inside, held-next, held-all}

@@ -1,3 +1,4 @@
+-- The invariant: the sum so far, which is not above the bound.
 use mathlib.Core.Path.{_≡_, sym}
 use Prim.Native.Nat.{_-_, _≤_}
 use native.Mathlib.Omega.{arith}

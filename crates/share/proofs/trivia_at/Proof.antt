@@ -1,3 +1,4 @@
+-- A word fits, so the difference does.
 use mathlib.Core.Path.{refl}
 use Prim.Native.Nat.{_+_, _*_}
 use native.Mathlib.Omega.{arith}

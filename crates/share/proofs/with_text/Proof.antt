@@ -1,3 +1,4 @@
+-- A case for each place that the text may take.
 use borrow.Author.Needs.{needs}
 use Rattle.share.proofs.Ranks.{put-first, put-second, put-third, put-none}
 use Rattle.share.proofs.with_text.Statement.{statement}

@@ -1,3 +1,4 @@
+-- The word of the definition, which has 32 bits.
 use mathlib.Core.Path.{refl}
 use Prim.Native.Nat.{_+_, _*_}
 use native.Mathlib.Omega.{arith}
