@@ -1,4 +1,4 @@
-// The fields of a line of test cases: decimal numbers, each ended by a byte that is no digit.
+// The fields of a line of test cases: decimal numbers, each ended by a byte that is no digit; and a text in runs of bytes.
 ghost use Prim.Native.Nat.{_≤_, _<_};
 ghost use lib.ListN.{length};
 
@@ -51,6 +51,40 @@ pub fn behind(input: &[u8], at: usize, b: u8) -> usize
         if input[i] == b {
             return i + 1;
         }
+        i += 1;
+    }
+    i
+}
+
+// Puts the runs of a line into the text from a place on; the place behind them. A run is how often a byte comes, and the byte.
+pub fn runs(input: &[u8], from: usize, next: usize, text: &mut [u8], low: usize) -> usize
+    requires { ⌜ (next ≤ length (now input)) × (low ≤ length (now text)) ⌝ }
+    ensures { λ r. ⌜ (low ≤ r) × (r ≤ length (now (text .entry))) ⌝ }
+{
+    let mut at = from;
+    let mut end = low;
+    while at < next {
+        let times = field(input, at);
+        let byte = field(input, times.next);
+        end = put(text, end, times.value, (byte.value % 256) as u8);
+        at = byte.next;
+    }
+    end
+}
+
+// Puts so many of a byte into the text from a place on, as far as there is room; the place behind them.
+pub fn put(text: &mut [u8], at: usize, times: usize, byte: u8) -> usize
+    requires { ⌜ at ≤ length (now text) ⌝ }
+    ensures { λ r. ⌜ (at ≤ r) × (r ≤ length (now (text .entry))) ⌝ }
+{
+    let mut i = at;
+    let mut left = times;
+    while i < text.len() {
+        if left == 0 {
+            break;
+        }
+        text[i] = byte;
+        left -= 1;
         i += 1;
     }
     i

@@ -2,9 +2,9 @@
 // makes them, and says what the fields are. Printed are the place of each case that differs, and for each name how many are equal and how many
 // differ.
 use libc::STDIN_FILENO;
-use libc::STDOUT_FILENO;
 use number::Typed;
 use number::Valued;
+use output::Tally;
 use parser::Answer;
 use std::num::wrapping_add_usize;
 use table::ERROR;
@@ -31,11 +31,6 @@ struct Expected {
     next: usize,
 }
 
-struct Tally {
-    equal: usize,
-    different: usize,
-}
-
 fn main() {
     let mut input = io::large_buffer();
     let mut text = [0u8; 262144];
@@ -44,7 +39,7 @@ fn main() {
 }
 
 fn lines(input: &[u8], text: &mut [u8]) {
-    let mut tally = none();
+    let mut tally = output::no_cases();
     let mut at: usize = 0;
     while at < input.len() {
         let next = fields::behind(input, at, b'\n');
@@ -53,39 +48,15 @@ fn lines(input: &[u8], text: &mut [u8]) {
     }
 }
 
-fn none() -> Tally {
-    Tally {
-        equal: 0,
-        different: 0,
-    }
-}
-
 // A case; or the name of the cases before it, behind a `#`.
 fn line(input: &[u8], at: usize, next: usize, text: &mut [u8], tally: Tally) -> Tally
     requires { ⌜ (at < next) × (next ≤ length (now input)) ⌝ }
 {
     if input[at] == b'#' {
-        output::number(b"equal ", tally.equal);
-        output::number(b", different ", tally.different);
-        io::write_all(STDOUT_FILENO, &input[at + 1..next]);
-        return none();
+        return output::named(tally, &input[at + 1..next]);
     }
     let same = case(input, at, next, text);
-    if !same {
-        output::number(b"different: byte ", at);
-        io::write_all(STDOUT_FILENO, b"\n");
-    }
-    counted(tally, same)
-}
-
-fn counted(tally: Tally, same: bool) -> Tally {
-    let mut t = tally;
-    if same {
-        t.equal = wrapping_add_usize(t.equal, 1);
-    } else {
-        t.different = wrapping_add_usize(t.different, 1);
-    }
-    t
+    output::counted(tally, at, same)
 }
 
 // Between bytes that are digits in every base, and between bytes that are digits in none.
@@ -122,47 +93,13 @@ fn expected_of(input: &[u8], at: usize) -> Expected {
 fn between(input: &[u8], c: Expected, next: usize, around: u8, text: &mut [u8]) -> bool
     requires { ⌜ next ≤ length (now input) ⌝ }
 {
-    let low = put(text, 0, MARGIN, around);
-    let high = runs(input, c.next, next, text, low);
-    let end = put(text, high, MARGIN, around);
+    let low = fields::put(text, 0, MARGIN, around);
+    let high = fields::runs(input, c.next, next, text, low);
+    let end = fields::put(text, high, MARGIN, around);
     if end == text.len() {
         return false;
     }
     compare(c, &text[low..high])
-}
-
-// Puts the runs of a line into the text from a place on; the place behind them. A run is how often a byte comes, and the byte.
-fn runs(input: &[u8], from: usize, next: usize, text: &mut [u8], low: usize) -> usize
-    requires { ⌜ (next ≤ length (now input)) × (low ≤ length (now text)) ⌝ }
-    ensures { λ r. ⌜ (low ≤ r) × (r ≤ length (now (text .entry))) ⌝ }
-{
-    let mut at = from;
-    let mut end = low;
-    while at < next {
-        let times = fields::field(input, at);
-        let byte = fields::field(input, times.next);
-        end = put(text, end, times.value, (byte.value % 256) as u8);
-        at = byte.next;
-    }
-    end
-}
-
-// Puts so many of a byte into the text from a place on, as far as there is room; the place behind them.
-fn put(text: &mut [u8], at: usize, times: usize, byte: u8) -> usize
-    requires { ⌜ at ≤ length (now text) ⌝ }
-    ensures { λ r. ⌜ (at ≤ r) × (r ≤ length (now (text .entry))) ⌝ }
-{
-    let mut i = at;
-    let mut left = times;
-    while i < text.len() {
-        if left == 0 {
-            break;
-        }
-        text[i] = byte;
-        left -= 1;
-        i += 1;
-    }
-    i
 }
 
 fn compare(c: Expected, text: &[u8]) -> bool {

@@ -3,8 +3,8 @@ use Prim.Native.Nat.{_-_, _≤_}
 use native.Mathlib.Omega.{arith}
 use lib.ListN.{length, length-set}
 use borrow.Author.Needs.{needs}
-use Rattle.number_test.proofs.put.Statement.{statement}
-use Rattle.number_test.proofs.put.Tie as tie
+use Rattle.fields.proofs.put.Statement.{statement}
+use Rattle.fields.proofs.put.Tie as tie
 
 abbrev Inv-loop : tie.InvT-loop
 Inv-loop text₀ at times byte i₀ left₀ text i left = (length text ≡ length text₀) × (at ≤ i) × (i ≤ length text₀)

@@ -3,8 +3,8 @@ use Prim.Native.Nat.{_-_, _≤_}
 use native.Mathlib.Omega.{arith}
 use lib.ListN.{length}
 use borrow.Author.Needs.{needs}
-use Rattle.number_test.proofs.runs.Statement.{statement}
-use Rattle.number_test.proofs.runs.Tie as tie
+use Rattle.fields.proofs.runs.Statement.{statement}
+use Rattle.fields.proofs.runs.Tie as tie
 
 abbrev Inv-loop : tie.InvT-loop
 Inv-loop input from next text₀ low at₀ end₀ text at end = (length text ≡ length text₀) × (low ≤ end) × (end ≤ length text₀)
