@@ -54,23 +54,25 @@ fn line(input: &[u8], at: usize, next: usize, tally: Tally) -> Tally
     output::counted(tally, at, same)
 }
 
+// A list of texts is 0, a text is 1.
 fn case(input: &[u8], at: usize, next: usize) -> bool
     requires { ⌜ next ≤ length (now input) ⌝ }
 {
+    let mut words = [0u32; 2048];
+    let mut bytes = [0u8; 256];
     let kind = fields::field(input, at);
-    match kind.value {
-        0 => list(input, kind.next, next),
-        1 => text(input, kind.next, next),
-        _ => false,
+    if kind.value == 0 {
+        return list(input, kind.next, next, &mut words);
     }
+    text(input, kind.next, next, &mut bytes)
 }
 
-// A list of texts.
-fn list(input: &[u8], at: usize, next: usize) -> bool {
-    let mut words = [0u32; 2048];
+fn list(input: &[u8], at: usize, next: usize, words: &mut [u32]) -> bool
+    requires { ⌜ next ≤ length (now input) ⌝ }
+{
     let e = expected_of(input, at);
     let n = e.words;
-    let end = texts(input, e.next, next, &mut words);
+    let end = texts(input, e.next, next, words);
     if end < n {
         return false;
     }
@@ -78,6 +80,10 @@ fn list(input: &[u8], at: usize, next: usize) -> bool {
         return false;
     }
     let r = share::shares(&words[..n]);
+    as_expected(e, r)
+}
+
+fn as_expected(e: Expected, r: SharesAnswer) -> bool {
     match r {
         SharesAnswer::Found(x) => {
             (e.refusal == 0)
@@ -118,7 +124,9 @@ fn expected_of(input: &[u8], at: usize) -> Expected {
 }
 
 // Puts the texts of a line into the list; the place behind them. A run is how often a text comes, its trivia and its length.
-fn texts(input: &[u8], from: usize, next: usize, words: &mut [u32]) -> usize {
+fn texts(input: &[u8], from: usize, next: usize, words: &mut [u32]) -> usize
+    requires { ⌜ next ≤ length (now input) ⌝ }
+{
     let mut at = from;
     let mut end: usize = 0;
     while at < next {
@@ -160,44 +168,55 @@ fn put(words: &mut [u32], at: usize, times: usize, trivia: u32, length: u32) -> 
     i
 }
 
-// A text: its reading, and its two words.
-fn text(input: &[u8], at: usize, next: usize) -> bool
+fn text(input: &[u8], at: usize, next: usize, bytes: &mut [u8]) -> bool
     requires { ⌜ next ≤ length (now input) ⌝ }
 {
-    let mut bytes = [0u8; 256];
     let trivia = fields::field(input, at);
     let length = fields::field(input, trivia.next);
-    let n = fields::runs(input, length.next, next, &mut bytes, 0);
+    let n = fields::runs(input, length.next, next, bytes, 0);
     read(&bytes[..n], trivia.value, length.value)
 }
 
+// The two words from the text's reading.
 fn read(text: &[u8], trivia: usize, length: usize) -> bool {
     let mut rows = [0u32; 1025 * ROW];
     let mut errors = [0u32; 257 * ERROR];
     let mut requests = [0u32; 256 * REQUEST];
+    let mut roots = [0usize; 1025];
     let r = parser::read(text, 0, false, 64, &mut rows, &mut errors, &mut requests);
     let Answer::Read(x) = r else {
         return false;
     };
-    let counted = rows::top_count(&rows, x.rows);
-    let Counted::Tops(n) = counted else {
-        return false;
-    };
-    words(text, &rows, x.rows, n, trivia, length)
+    words(text, &rows, x.rows, trivia, length, &mut roots)
 }
 
 // In just the room that the top rows need, and in a word less.
-fn words(text: &[u8], rows: &[u32], count: usize, n: usize, trivia: usize, length: usize) -> bool {
-    let mut roots = [0usize; 1025];
+fn words(
+    text: &[u8],
+    rows: &[u32],
+    count: usize,
+    trivia: usize,
+    length: usize,
+    roots: &mut [usize],
+) -> bool {
+    let counted = rows::top_count(rows, count);
+    let Counted::Tops(n) = counted else {
+        return false;
+    };
     if n == 0 {
         return false;
     }
-    if roots.len() < n {
-        return false;
-    }
-    let a = share::text_words(text, rows, count, &mut roots[..n]);
-    let b = share::text_words(text, rows, count, &mut roots[..n - 1]);
+    let a = within(text, rows, count, roots, n);
+    let b = within(text, rows, count, roots, n - 1);
     answered(a, trivia, length) & no_room(b, n)
+}
+
+// Lends so many words for the top rows.
+fn within(text: &[u8], rows: &[u32], count: usize, roots: &mut [usize], n: usize) -> TextAnswer {
+    if roots.len() < n {
+        return TextAnswer::WrongText;
+    }
+    share::text_words(text, rows, count, &mut roots[..n])
 }
 
 fn answered(a: TextAnswer, trivia: usize, length: usize) -> bool {

@@ -4,9 +4,7 @@ use vireopatch::{enough, read, shares, text_words, Shares, State, TextWords, MAX
 
 const CASES: &str = include_str!("../../../crates/share_test/stdin");
 
-/// The fields of the lines of one kind, behind the kind. A list is 0, the refusal and what it gives, the share, how many of the largest there
-/// are and the three, how many words, and the texts in runs: times, trivia, by how much it grows, length. A text is 1, its trivia and its length,
-/// and its bytes in runs: times, byte. A line that begins with `#` is a name.
+/// The fields of the lines of one kind, behind the kind: 0 for a list, 1 for a text. tools/make-share-cases says what they are.
 fn cases(kind: u64) -> impl Iterator<Item = (&'static str, Vec<u64>)> {
     let lines = CASES.lines().filter(|line| !line.starts_with('#'));
     let all = lines.map(|line| (line, line.split(' ').map(|n| n.parse().unwrap())));
@@ -25,15 +23,12 @@ fn lists() {
             panic!("{line}")
         };
         let mut words: Vec<u32> = vec![];
-        for run in runs.chunks(4) {
-            let [times, trivia, step, length] = run else {
+        for run in runs.chunks(3) {
+            let [times, trivia, length] = run else {
                 panic!("{line}")
             };
-            for i in 0..*times {
-                words.extend([
-                    trivia.wrapping_add(i.wrapping_mul(*step)) as u32,
-                    *length as u32,
-                ]);
+            for _ in 0..*times {
+                words.extend([*trivia as u32, *length as u32]);
             }
         }
         assert!(*len as usize <= words.len(), "{line}");

@@ -12,8 +12,8 @@ Inv-loop input text₀ tally₀ at₀ text tally at = length text ≡ length tex
 abbrev μ-loop : tie.MeasureT-loop
 μ-loop input text₀ tally₀ at₀ text tally at = length input - at
 
-none-requires : tie.Need-none-requires Inv-loop μ-loop
-none-requires c κs = search needs
+no-cases-requires : tie.Need-no-cases-requires Inv-loop μ-loop
+no-cases-requires c κs = search needs
 
 loop-holds : tie.Need-loop-holds Inv-loop μ-loop
 loop-holds c = refl
@@ -42,7 +42,7 @@ lines-spec =
     (tie.spec
     Inv-loop
     μ-loop
-    none-requires
+    no-cases-requires
     loop-holds
     behind-requires
     line-requires
