@@ -65,17 +65,20 @@ static int read_and_print(struct text text, int (*print)(struct text, const stru
     return status;
 }
 
-/* The same for a file that the example is called with, or standard input if it is null. Status 2 if there is no text. */
+/* The same for a file that the example is called with, or standard input if it is null. Status 2 if there is no text. Says which text is refused. */
 static int run(const char *file, const char *name, int (*print)(struct text, const struct reading *))
 {
     struct text text;
+    const char *place = file ? file : "standard input";
     FILE *from = file ? fopen(file, "rb") : stdin;
     int status;
     if (!from || !slurp(from, &text)) {
-        fprintf(stderr, "%s: no text\n", name);
+        fprintf(stderr, "%s: %s: no text\n", name, place);
         return 2;
     }
     status = read_and_print(text, print);
+    if (status == 1)
+        fprintf(stderr, "%s: %s: refused\n", name, place);
     free(text.bytes);
     if (from != stdin)
         fclose(from);

@@ -24,13 +24,17 @@ pub fn refused(refusal: Refusal) -> ! {
 }
 
 /// The text of a file, or of standard input if there is none; the tables of rows, errors and requests; the counts and the end state. Without
-/// a text the program ends with status 2; where the text is refused it prints the refusal and ends with status 1.
+/// a text the program ends with status 2; where the text is refused it prints the refusal, says which text it is, and ends with status 1.
 pub fn read_text(
     example: &str,
     file: Option<impl AsRef<Path>>,
 ) -> (Vec<u8>, [Vec<u32>; 3], Reading) {
+    let place = match &file {
+        Some(name) => name.as_ref().display().to_string(),
+        None => "standard input".to_string(),
+    };
     let text = text(file).unwrap_or_else(|e| {
-        eprintln!("{example}: {e}");
+        eprintln!("{example}: {place}: {e}");
         exit(2)
     });
     // A longer text is refused before anything is written.
@@ -51,6 +55,9 @@ pub fn read_text(
         &mut requests,
     ) {
         Ok(reading) => (text, [rows, errors, requests], reading),
-        Err(refusal) => refused(refusal),
+        Err(refusal) => {
+            eprintln!("{example}: {place}: refused");
+            refused(refusal)
+        }
     }
 }
