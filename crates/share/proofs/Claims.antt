@@ -8,7 +8,7 @@ use native.Mathlib.Omega.{arith}
 use native.Mathlib.Nat.{eq-one-of-dvd-one, mul-div-cancel', mul-assoc, mul-comm, mul-right-comm, eq-of-mul-eq-mul-right}
 use borrow.Author.Tests.{eq-eqb, eqb-true, ltb-true, ltb-false}
 use lib.Dec.{ltb, eqb}
-use lib.ListN.{length, getD, length-take}
+use lib.ListN.{length, length-take, List·getD-eq-default}
 use Rattle.reading.specs.Table.{Answer, max-text}
 use Rattle.share.specs.Answers.{told}
 use Rattle.share.specs.Claims.{all-trivia, all-bytes, Lowest, Ordered, Out, listed, Answered, too-many as more-texts, wrong-text, Claimed}
@@ -141,11 +141,6 @@ as-listed x (a ∷ b ∷ []) h = refl
 as-listed x (a ∷ b ∷ c ∷ []) h = refl
 as-listed x (a ∷ b ∷ c ∷ d ∷ js) h = absurd (let z : ⊥ = omega arith in z)
 
-absent : (js : List ℕ) (k : ℕ) → length js ≤ k → getD js k 0 ≡ 0
-absent [] k h = refl
-absent (j ∷ js) zero h = absurd (let z : ⊥ = omega arith in z)
-absent (j ∷ js) (suc k) h = absent js k (omega arith)
-
 module _ (w : List ℕ) where
   abbrev answer : Shares
   answer = shares-of (pooled w) (largest w)
@@ -168,9 +163,9 @@ module _ (w : List ℕ) where
         no-bytes = no-bytes-share (all-trivia w) (all-bytes w);
         count = n;
         indexes = subst (λ (js : List ℕ). All (λ i. i < texts w) js) (sym l) (take-all 3 (ranked w (texts w)) (ranked-before w (texts w)));
-        no-first = absent (largest w) 0;
-        no-second = absent (largest w) 1;
-        no-third = absent (largest w) 2;
+        no-first = λ h. List·getD-eq-default (largest w) 0 h;
+        no-second = λ h. List·getD-eq-default (largest w) 0 h;
+        no-third = λ h. List·getD-eq-default (largest w) 0 h;
         ordered = subst (λ (js : List ℕ). Ordered w js) (sym l) (take-ordered w 3 (ranked w (texts w)) o);
         behind = f;
         no-larger = λ i h k. behind-smaller w i (listed answer) (f i h k);

@@ -25,15 +25,15 @@ module _ (a o b p c q : ℕ) where
   products : b * o * q ≤ a * p * q → c * p * o ≤ b * q * o → c * o * p ≤ a * q * p
   products h k = omega (arith, mul-right-comm b o q, mul-right-comm a p q, mul-right-comm c p o, h, k)
 
-  pub not-less : 0 < p → b * o ≤ a * p → c * p ≤ b * q → c * o ≤ a * q
+  not-less : 0 < p → b * o ≤ a * p → c * p ≤ b * q → c * o ≤ a * q
   not-less z h k = le-of-mul-le-mul-right {m = c * o} {n = a * q} {k = p} (products (mul-le-mul-right q h) (mul-le-mul-right o k)) z
 
-  pub more-left : 0 < q → b * o < a * p → c * p ≤ b * q → c * o < a * q
+  more-left : 0 < q → b * o < a * p → c * p ≤ b * q → c * o < a * q
   more-left z h k =
       lt-of-mul-lt-mul-right p {m = c * o} {n = a * q}
       (omega (arith, mul-right-comm b o q, mul-right-comm a p q, mul-right-comm c p o, mul-lt-mul-of-pos-right {m = b * o} {n = a * p} {k = q} h z, mul-le-mul-right {m = c * p} {n = b * q} o k))
 
-  pub more-right : 0 < o → b * o ≤ a * p → c * p < b * q → c * o < a * q
+  more-right : 0 < o → b * o ≤ a * p → c * p < b * q → c * o < a * q
   more-right z h k =
       lt-of-mul-lt-mul-right p {m = c * o} {n = a * q}
       (omega (arith, mul-right-comm b o q, mul-right-comm a p q, mul-right-comm c p o, mul-le-mul-right {m = b * o} {n = a * p} q h, mul-lt-mul-of-pos-right {m = c * p} {n = b * q} {k = o} k z))

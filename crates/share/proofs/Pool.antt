@@ -26,7 +26,7 @@ sum-next f total i v e h = omega (arith, e, h, ap (λ (k : ℕ). sum f k) (let u
 pub sum-all : (f : ℕ → ℕ) (total i n : ℕ) → total ≡ sum f i → i ≤ n → n ≤ i → total ≡ sum f n
 sum-all f total i n e h k = e ∙ ap (λ (j : ℕ). sum f j) (let u : i ≡ n = omega arith in u)
 
-pub sum-grows : (f : ℕ → ℕ) (i n : ℕ) → i ≤ n → sum f i ≤ sum f n
+sum-grows : (f : ℕ → ℕ) (i n : ℕ) → i ≤ n → sum f i ≤ sum f n
 unfolding sum
 sum-grows f i zero h = omega (arith, ap (λ (k : ℕ). sum f k) (let e : i ≡ 0 = omega arith in e))
 sum-grows f i (suc n) h = go (ltb n i) refl (sum-grows f i n)

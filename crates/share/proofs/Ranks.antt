@@ -7,6 +7,7 @@ use native.Mathlib.Omega.{arith}
 use borrow.Author.Tests.{le-ltb}
 use lib.Dec.{ltb}
 use lib.ListN.{length, take, getD, length-take}
+use lib.Seq.{take-take}
 use Rattle.share.specs.Answers.{largest-of, With}
 use Rattle.share.specs.Shares.{larger, ahead, placed, ranked}
 use Rattle.share.specs.Steps.{All, none, more, Before}
@@ -19,14 +20,8 @@ later : (w : List ℕ) (i j : ℕ) → j < i → ahead w i j ≡ larger w i j
 unfolding ahead
 later w i j h = rw (le-ltb i j (omega arith), and-false (not (larger w j i))) (or-false (larger w i j))
 
-take-less : (n m : ℕ) (js : List ℕ) → n ≤ m → take n js ≡ take n (take m js)
-take-less zero m js h = refl
-take-less (suc n) zero js h = absurd (let z : ⊥ = omega arith in z)
-take-less (suc n) (suc m) [] h = refl
-take-less (suc n) (suc m) (j ∷ js) h = ap (λ (ks : List ℕ). j ∷ ks) (take-less n m js (omega arith))
-
 -- what is not among the first n stays outside them
-pub take-placed : (w : List ℕ) (i n : ℕ) (js : List ℕ) → take n (placed w i js) ≡ take n (placed w i (take n js))
+take-placed : (w : List ℕ) (i n : ℕ) (js : List ℕ) → take n (placed w i js) ≡ take n (placed w i (take n js))
 unfolding placed
 take-placed w i zero js = refl
 take-placed w i (suc n) [] = refl
@@ -34,10 +29,10 @@ take-placed w i (suc n) (j ∷ js) = go (ahead w i j) (take-placed w i n js)
   where
     go : (b : Bool) → take n (placed w i js) ≡ take n (placed w i (take n js))
         → take (suc n) (cond b (i ∷ j ∷ js) (j ∷ placed w i js)) ≡ take (suc n) (cond b (i ∷ j ∷ take n js) (j ∷ placed w i (take n js)))
-    go true e = ap (λ (ks : List ℕ). i ∷ ks) (take-less n (suc n) (j ∷ js) (omega arith))
+    go true e = ap (λ (ks : List ℕ). i ∷ ks) (sym (take-take n (suc n) (j ∷ js) (omega arith)))
     go false e = ap (λ (ks : List ℕ). j ∷ ks) e
 
-pub placed-length : (w : List ℕ) (i : ℕ) (js : List ℕ) → length (placed w i js) ≡ suc (length js)
+placed-length : (w : List ℕ) (i : ℕ) (js : List ℕ) → length (placed w i js) ≡ suc (length js)
 unfolding placed
 placed-length w i [] = refl
 placed-length w i (j ∷ js) = go (ahead w i j) (placed-length w i js)
@@ -77,7 +72,7 @@ take-all (suc n) [] none = none
 take-all (suc n) (j ∷ js) (more h b) = more h (take-all n js b)
 
 -- an index that is there is before i, and an absent one is 0
-pub index-most : {i : ℕ} (js : List ℕ) → Before i js → (k : ℕ) → getD js k 0 ≤ i
+index-most : {i : ℕ} (js : List ℕ) → Before i js → (k : ℕ) → getD js k 0 ≤ i
 index-most [] none k = omega arith
 index-most (j ∷ js) (more h b) zero = omega arith
 index-most (j ∷ js) (more h b) (suc k) = index-most js b k

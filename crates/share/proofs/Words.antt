@@ -1,12 +1,12 @@
 -- The two words of a text: the top rows that are listed stand in the row table, and what the tests of the call decide.
 use mathlib.Core.Path.{_≡_, refl, ap, sym, subst, _∙_}
 use mathlib.Core.Bool.{Bool, true, false, _||_, cond, or-true}
-use mathlib.Core.List.{List, [], _∷_, _++_}
+use mathlib.Core.List.{List, [], _++_}
 use Prim.Native.Nat.{ℕ, zero, suc, _+_, _-_, min, _≤_, _<_}
 use native.Mathlib.Omega.{arith}
 use borrow.Author.Tests.{lt-ltb, le-ltb, ltb-false}
 use lib.Dec.{ltb, eqb}
-use lib.ListN.{length, getD, length-append}
+use lib.ListN.{length, getD, length-append, List·getD-append}
 use Rattle.reading.specs.Items.{Listed}
 use Rattle.reading.specs.Table.{Answer, answered, refused, max-text, room, row-width, filled}
 use Rattle.reading.specs.Walk.{Subtree, walk, size-at}
@@ -36,11 +36,6 @@ covers-inside t none k h = absurd (let z : ⊥ = omega arith in z)
 covers-inside t (subtree e c) zero h = walk-inside t _ _ e
 covers-inside t (subtree e c) (suc k) h = covers-inside t c k (omega arith)
 
-getD-front : (rs zs : List ℕ) (k : ℕ) → k < length rs → getD (rs ++ zs) k 0 ≡ getD rs k 0
-getD-front [] zs k h = absurd (let z : ⊥ = omega arith in z)
-getD-front (r ∷ rs) zs zero h = refl
-getD-front (r ∷ rs) zs (suc k) h = getD-front rs zs k (omega arith)
-
 -- so many top rows are listed at the front of the table, and each of them is a row
 pub record Inside (rows : List ℕ) (n : ℕ) (roots : List ℕ) : Type 0 where
   pub many : n ≤ length roots
@@ -50,7 +45,7 @@ covers-listed : (rows rs zs : List ℕ) {b n : ℕ} → Covers rows b rs n → I
 covers-listed rows rs zs c =
     record {
       many = omega (arith, length-append rs zs);
-      each = λ k h. subst (λ (r : ℕ). r < room row-width rows) (sym (getD-front rs zs k h)) (covers-inside rows c k h);
+      each = λ k h. subst (λ (r : ℕ). r < room row-width rows) (sym (List·getD-append rs zs 0 k h)) (covers-inside rows c k h);
     }
 
 pub tops-inside : (rows : List ℕ) (count n : ℕ) (roots after : List ℕ) → listed (answered n) after ≡ tops-listed rows count roots → Inside rows n after
