@@ -106,13 +106,12 @@ enum {
 
 /*
  * Words that are enough for every text of N bytes: it has at most 4N + 1 rows, N + 1 errors and N requests, and a run of N bytes at most N
- * items. Real texts have fewer rows; a refusal names the need. A table of roots has a word for each top row, and these are some of the rows.
+ * items. Real texts have fewer rows; a refusal names the need.
  */
 #define VIREOPATCH_ROWS_ENOUGH(n)     (((size_t)4 * (n) + 1) * VIREOPATCH_ROW_WORDS)
 #define VIREOPATCH_ERRORS_ENOUGH(n)   (((size_t)(n) + 1) * VIREOPATCH_ERROR_WORDS)
 #define VIREOPATCH_REQUESTS_ENOUGH(n) ((size_t)(n) * VIREOPATCH_REQUEST_WORDS)
 #define VIREOPATCH_ITEMS_ENOUGH(n)    ((size_t)(n) * VIREOPATCH_ITEM_WORDS)
-#define VIREOPATCH_ROOTS_ENOUGH(n)    ((size_t)4 * (n) + 1)
 
 /* Codes of errors. 3, 4 and 5 sit at the empty place where the wanted part would begin, before trivia; 1 at the end of the text. */
 enum {

@@ -9,11 +9,10 @@ use native.Mathlib.Nat.{eq-one-of-dvd-one, mul-div-cancel', mul-assoc, mul-comm,
 use borrow.Author.Tests.{eq-eqb, eqb-true, ltb-true, ltb-false}
 use lib.Dec.{ltb, eqb}
 use lib.ListN.{length, length-take, List·getD-eq-default}
-use Rattle.reading.specs.Table.{Answer, max-text}
+use Rattle.reading.specs.Table.{Answer, refused, max-text}
 use Rattle.share.specs.Answers.{told}
-use Rattle.share.specs.Claims.{all-trivia, all-bytes, Lowest, Ordered, Out, listed, Answered, too-many as more-texts, wrong-text, Claimed}
-use Rattle.share.specs.Shares.{Fraction, Shares, max-texts, texts, trivia-of, length-of, wrong, or-else, first-wrong, sum, gcd, share, ahead, ranked, shares-of, pooled, largest, shares}
-use Rattle.share.specs.Steps.{All}
+use Rattle.share.specs.Claims.{All, all-trivia, all-bytes, Lowest, Ordered, Out, listed, Answered, Refused, too-many as more-texts, wrong-text, Claimed}
+use Rattle.share.specs.Shares.{Fraction, Shares, max-texts, texts, trivia-of, length-of, wrong, or-else, first-wrong, sum, gcd, share, ahead, ranked, result, pooled, largest, shares}
 use Rattle.share.specs.declared.SharesAnswer.{SharesAnswer}
 use Rattle.share.proofs.Divisors.{Gcd, gcd-known, gcd-positive, reduced-lowest, lowest-one, none-of, share-none, share-some, some-left}
 use Rattle.share.proofs.Order.{ranked-ordered, ranked-has, take-ordered, out-behind, behind-smaller}
@@ -22,15 +21,16 @@ use Rattle.share.proofs.Tests.{too-many, some-wrong, none-wrong}
 
 -- The fraction ----------------------------------------------------------------
 
-record Reduced (a b : ℕ) (x : Fraction) : Type 0 where
+-- x is a over b in lowest terms
+record LowestOf (a b : ℕ) (x : Fraction) : Type 0 where
   equal : x .numerator * b ≡ a * x .denominator
   lowest : Lowest (x .numerator) (x .denominator)
   positive : 0 < x .denominator
 
-none-reduced : (a b : ℕ) → a ≡ 0 → Reduced a b (record { numerator = 0; denominator = 1 })
+none-reduced : (a b : ℕ) → a ≡ 0 → LowestOf a b (record { numerator = 0; denominator = 1 })
 none-reduced a b e = record { equal = omega (arith, e); lowest = λ d h k. eq-one-of-dvd-one k; positive = omega arith }
 
-some-reduced : (a b g : ℕ) → 0 < b → 0 < g → Gcd a b g → Reduced a b (record { numerator = a / g; denominator = b / g })
+some-reduced : (a b g : ℕ) → 0 < b → 0 < g → Gcd a b g → LowestOf a b (record { numerator = a / g; denominator = b / g })
 some-reduced a b g h p u =
     let l : g * (a / g) ≡ a = mul-div-cancel' g (u .left) in
     let r : g * (b / g) ≡ b = mul-div-cancel' g (u .right) in
@@ -52,14 +52,14 @@ none-there a b h e = go (eqb a 0) (eqb b 0) refl refl e
     go false true p q e = omega (arith, eqb-true b 0 q)
     go false false p q e = absurd (true≢false (sym e))
 
-share-reduced : (a b : ℕ) → a ≤ b → Reduced a b (share a b)
+share-reduced : (a b : ℕ) → a ≤ b → LowestOf a b (share a b)
 share-reduced a b h = go (none-of a b) refl
   where
-    go : (n : Bool) → none-of a b ≡ n → Reduced a b (share a b)
-    go true e = subst (λ (x : Fraction). Reduced a b x) (share-none a b e) (none-reduced a b (none-there a b h e))
+    go : (n : Bool) → none-of a b ≡ n → LowestOf a b (share a b)
+    go true e = subst (λ (x : Fraction). LowestOf a b x) (share-none a b e) (none-reduced a b (none-there a b h e))
     go false e =
         let p : 0 < a = some-left a b e in
-        subst (λ (x : Fraction). Reduced a b x) (share-some a b (gcd a b) e refl) (some-reduced a b (gcd a b) (omega arith) (gcd-positive p (gcd-known a b p)) (gcd-known a b p))
+        subst (λ (x : Fraction). LowestOf a b x) (share-some a b (gcd a b) e refl) (some-reduced a b (gcd a b) (omega arith) (gcd-positive p (gcd-known a b p)) (gcd-known a b p))
 
 no-bytes-share : (a b : ℕ) → b ≡ 0 → (share a b .numerator ≡ 0) × (share a b .denominator ≡ 1)
 no-bytes-share a b e =
@@ -67,7 +67,7 @@ no-bytes-share a b e =
     (ap (λ (x : Fraction). x .numerator) (sym u), ap (λ (x : Fraction). x .denominator) (sym u))
 
 -- two fractions of one value in lowest terms
-only-one : (a b : ℕ) (x : Fraction) → Reduced a b x → 0 < b → (p q : ℕ) → p * b ≡ a * q → Lowest p q → (p ≡ x .numerator) × (q ≡ x .denominator)
+only-one : (a b : ℕ) (x : Fraction) → LowestOf a b x → 0 < b → (p q : ℕ) → p * b ≡ a * q → Lowest p q → (p ≡ x .numerator) × (q ≡ x .denominator)
 only-one a b x u h p q e l = lowest-one (x .numerator) (x .denominator) p q (u .positive) (u .lowest) l (eq-of-mul-eq-mul-right b h _ _ cross)
   where
     cross : x .numerator * q * b ≡ p * x .denominator * b
@@ -134,7 +134,7 @@ module _ (w : List ℕ) where
 
 -- An answer -------------------------------------------------------------------
 
-as-listed : (x : Fraction) (js : List ℕ) → length js ≤ 3 → listed (shares-of x js) ≡ js
+as-listed : (x : Fraction) (js : List ℕ) → length js ≤ 3 → listed (result x js) ≡ js
 as-listed x [] h = refl
 as-listed x (a ∷ []) h = refl
 as-listed x (a ∷ b ∷ []) h = refl
@@ -143,11 +143,11 @@ as-listed x (a ∷ b ∷ c ∷ d ∷ js) h = absurd (let z : ⊥ = omega arith i
 
 module _ (w : List ℕ) where
   abbrev answer : Shares
-  answer = shares-of (pooled w) (largest w)
+  answer = result (pooled w) (largest w)
 
-  answer-claims : first-wrong w (texts w) ≡ none → Answered w answer
-  answer-claims e =
-      let u : Reduced (all-trivia w) (all-bytes w) (pooled w) = share-reduced (all-trivia w) (all-bytes w) (trivia-less w (texts w) e) in
+  answer-claims : texts w ≤ max-texts → first-wrong w (texts w) ≡ none → Answered w answer
+  answer-claims few e =
+      let u : LowestOf (all-trivia w) (all-bytes w) (pooled w) = share-reduced (all-trivia w) (all-bytes w) (trivia-less w (texts w) e) in
       let n : length (largest w) ≡ min 3 (texts w) = length-take 3 (ranked w (texts w)) ∙ ap (λ (k : ℕ). min 3 k) (ranked-length w (texts w)) in
       let l : listed answer ≡ largest w = as-listed (pooled w) (largest w) (omega (arith, n)) in
       let o : Ordered w (ranked w (texts w)) = ranked-ordered w (texts w) in
@@ -157,6 +157,8 @@ module _ (w : List ℕ) where
       (out-behind w 3 i (ranked w (texts w)) o (ranked-has w (texts w) i h) (subst (λ (js : List ℕ). Out i js) l k))
       in
       record {
+        few = few;
+        right = all-right w (texts w) e;
         equal = u .equal;
         lowest = u .lowest;
         only = only-one (all-trivia w) (all-bytes w) (pooled w) u;
@@ -181,8 +183,18 @@ module _ (w : List ℕ) where
           let few : texts w ≤ max-texts = ltb-false max-texts (texts w) p in
           let f = first-one w (texts w) i q in
           subst (λ (a : Answer Shares). Claimed w a) (some-wrong w few i q) (wrong-text few (f .inside) (f .is-wrong) (f .before))
-      go false p none q = subst (λ (a : Answer Shares). Claimed w a) (none-wrong w (ltb-false max-texts (texts w) p) q) (answer-claims q)
+      go false p none q =
+          let few : texts w ≤ max-texts = ltb-false max-texts (texts w) p in
+          subst (λ (a : Answer Shares). Claimed w a) (none-wrong w few q) (answer-claims few q)
 
 -- any call that meets its contract
 pub shares-claims : (w : List ℕ) (r : SharesAnswer) → told r ≡ shares w → Claimed w (told r)
 shares-claims w r m = subst (λ (a : Answer Shares). Claimed w a) (sym m) (claimed w)
+
+-- a list of texts that are not wrong is refused for their number alone
+pub refused-many : (w : List ℕ) → ((i : ℕ) → i < texts w → wrong (trivia-of w i) (length-of w i) ≡ false) → (k g : ℕ) → shares w ≡ refused k g → k ≡ 27
+refused-many w h k g e = go k g (subst (λ (a : Answer Shares). Claimed w a) e (claimed w))
+  where
+    go : (k g : ℕ) → Refused w k g → k ≡ 27
+    go k g (more-texts l) = refl
+    go k g (wrong-text l i q f) = absurd (true≢false (sym q ∙ h g i))

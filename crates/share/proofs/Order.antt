@@ -8,9 +8,9 @@ use native.Mathlib.Nat.{mul-le-mul-right, mul-lt-mul-of-pos-right, mul-right-com
 use borrow.Author.Tests.{lt-ltb, le-ltb, ltb-true, ltb-false}
 use lib.Dec.{ltb}
 use lib.ListN.{take}
-use Rattle.share.specs.Claims.{Ordered, none, more, Out}
+use Rattle.share.specs.Claims.{All, nothing, another, Ordered, none, more, Out}
 use Rattle.share.specs.Shares.{trivia-of, over, larger, ahead, placed, ranked}
-use Rattle.share.specs.Steps.{All, none as nothing, more as another, Before}
+use Rattle.share.specs.Steps.{Before}
 use Rattle.share.proofs.Ranks.{ranked-before, take-all}
 
 -- i is one of them

@@ -8,8 +8,8 @@ use native.Mathlib.Omega.{arith}
 use native.Mathlib.Nat.{mul-le-mul}
 use borrow.Author.Tests.{lt-ltb, le-ltb, ltb-true, ltb-false}
 use lib.Dec.{ltb}
-use Rattle.share.specs.Answers.{below}
 use Rattle.share.specs.Shares.{or-else, wrong, first-wrong, trivia-of, length-of, sum, larger}
+use Rattle.share.specs.Steps.{below}
 
 -- Sums ------------------------------------------------------------------------
 
@@ -34,6 +34,11 @@ sum-grows f i (suc n) h = go (ltb n i) refl (sum-grows f i n)
     go : (b : Bool) → ltb n i ≡ b → (i ≤ n → sum f i ≤ sum f n) → sum f i ≤ sum f n + f n
     go true q g = omega (arith, ap (λ (k : ℕ). sum f k) (let e : i ≡ suc n = omega (arith, ltb-true n i q) in e))
     go false q g = omega (arith, g (ltb-false n i q))
+
+pub sum-same : {f g : ℕ → ℕ} (n : ℕ) → ((k : ℕ) → k < n → f k ≡ g k) → sum f n ≡ sum g n
+unfolding sum
+sum-same zero h = refl
+sum-same (suc n) h = omega (arith, sum-same n (λ k l. h k (omega arith)), h n (omega arith))
 
 -- counted as far as one more than a bound
 pub sum-above : (f : ℕ → ℕ) (total i n m : ℕ) → total ≡ sum f (i + 1) → i < n → m < total → m + 1 ≡ min (sum f n) (suc m)

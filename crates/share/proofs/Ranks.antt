@@ -8,9 +8,9 @@ use borrow.Author.Tests.{le-ltb}
 use lib.Dec.{ltb}
 use lib.ListN.{length, take, getD, length-take}
 use lib.Seq.{take-take}
-use Rattle.share.specs.Answers.{largest-of, With}
+use Rattle.share.specs.Claims.{All, nothing as none, another as more}
 use Rattle.share.specs.Shares.{larger, ahead, placed, ranked}
-use Rattle.share.specs.Steps.{All, none, more, Before}
+use Rattle.share.specs.Steps.{Before, largest-of, With}
 use Rattle.share.specs.declared.Largest.{Largest}
 
 -- Where a text is placed ------------------------------------------------------

@@ -5,8 +5,8 @@ use mathlib.Core.Option.{none, some}
 use Prim.Native.Nat.{ℕ, _≤_, _<_}
 use borrow.Author.Tests.{lt-ltb, le-ltb}
 use Rattle.reading.specs.Table.{answered, refused}
-use Rattle.share.specs.Answers.{fraction, largest-of, below}
-use Rattle.share.specs.Shares.{Fraction, Shares, max-texts, texts, trivia-of, length-of, first-wrong, sum, share, shares-of, pooled, largest, shares}
+use Rattle.share.specs.Shares.{Fraction, Shares, max-texts, texts, trivia-of, length-of, first-wrong, sum, share, result, pooled, largest, shares}
+use Rattle.share.specs.Steps.{fraction, largest-of, below}
 use Rattle.share.specs.declared.Fraction.{Fraction as Reduced}
 use Rattle.share.specs.declared.Largest.{Largest}
 
@@ -20,7 +20,7 @@ module _ (w : List ℕ) where
     unfolding shares
     some-wrong i e = rw (le-ltb max-texts (texts w) few, e)
 
-    pub none-wrong : first-wrong w (texts w) ≡ none → answered (shares-of (pooled w) (largest w)) ≡ shares w
+    pub none-wrong : first-wrong w (texts w) ≡ none → answered (result (pooled w) (largest w)) ≡ shares w
     unfolding shares
     none-wrong e = rw (le-ltb max-texts (texts w) few, e)
 

@@ -1,13 +1,14 @@
--- Document 02, F-14, on a page: what an answer says about the texts, and when there is none. `Claimed`, at the end, is proved of every outcome of
--- `share::shares` (proofs/Claims) and of `vireopatch_shares` (proofs/Claims of crate vireopatch).
+-- Document 02, F-14, on a page: what an answer says about the texts, and when there is none. `Claimed` is proved of every outcome of `share::shares`
+-- (proofs/Claims) and of `vireopatch_shares` (proofs/Claims of crate vireopatch); `Taken`, at the end, of `share::text_words` (proofs/Words) and
+-- `vireopatch_text_words`.
 use mathlib.Core.Path.{_≡_}
 use mathlib.Core.Bool.{true, false}
 use mathlib.Core.List.{List, [], _∷_}
 use Prim.Native.Nat.{ℕ, _*_, _≤_, _<_, _∣_, min}
-use lib.ListN.{take}
+use lib.ListN.{length, take}
 use Rattle.reading.specs.Table.{Answer, answered, refused}
 use Rattle.share.specs.Shares.{Shares, max-texts, texts, trivia-of, length-of, wrong, sum, larger, ahead}
-use Rattle.share.specs.Steps.{All}
+use Rattle.share.specs.Words.{Text}
 
 -- The pooled share ------------------------------------------------------------
 
@@ -27,6 +28,11 @@ Equal w p q = p * all-bytes w ≡ all-trivia w * q
 
 -- Texts in order --------------------------------------------------------------
 
+-- each of them
+pub data All (P : ℕ → Type 0) : List ℕ → Type 0 where
+  nothing : All P []
+  another : {j : ℕ} {js : List ℕ} → P j → All P js → All P (j ∷ js)
+
 -- each comes before all that stand behind it
 pub data Ordered (w : List ℕ) : List ℕ → Type 0 where
   none : Ordered w []
@@ -43,6 +49,9 @@ listed s = take (s .count) (s .first ∷ s .second ∷ s .third ∷ [])
 -- An answer -------------------------------------------------------------------
 
 pub record Answered (w : List ℕ) (s : Shares) : Type 0 where
+  -- neither 27 nor 28 applies
+  pub few : texts w ≤ max-texts
+  pub right : (i : ℕ) → i < texts w → wrong (trivia-of w i) (length-of w i) ≡ false
   -- "the pooled share as a fraction in lowest terms"
   pub equal : Equal w (s .numerator) (s .denominator)
   pub lowest : Lowest (s .numerator) (s .denominator)
@@ -75,3 +84,16 @@ pub data Refused (w : List ℕ) : ℕ → ℕ → Type 0 where
 abbrev pub Claimed : List ℕ → Answer Shares → Type 0
 Claimed w (answered s) = Answered w s
 Claimed w (refused k g) = Refused w k g
+
+-- The two words of a text -----------------------------------------------------
+
+-- 13; 6, giving more than the table of roots has words and no more than there are rows, so a word for each row is enough; 28, giving 0
+pub data NoWords (count : ℕ) (roots : List ℕ) : ℕ → ℕ → Type 0 where
+  no-subtree : {g : ℕ} → NoWords count roots 13 g
+  no-room : {g : ℕ} → length roots < g → g ≤ count → NoWords count roots 6 g
+  wrong-words : NoWords count roots 28 0
+
+-- what is answered is not refused with 28 in a list
+abbrev pub Taken : ℕ → List ℕ → Answer Text → Type 0
+Taken count roots (answered x) = wrong (x .trivia) (x .length) ≡ false
+Taken count roots (refused k g) = NoWords count roots k g

@@ -1,5 +1,5 @@
 pub mod Shares
 pub mod Words
-pub mod Steps
 pub mod Claims
+pub mod Steps
 pub mod Answers

@@ -107,8 +107,8 @@ pub record Shares : Type 0 where
   pub second : ℕ
   pub third : ℕ
 
-abbrev pub shares-of : Fraction → List ℕ → Shares
-shares-of x is =
+abbrev pub result : Fraction → List ℕ → Shares
+result x is =
     record {
       numerator = x .numerator;
       denominator = x .denominator;
@@ -135,4 +135,4 @@ unless none x = answered x
 unless (some r) x = refused (r .0) (r .1)
 
 unfoldable pub shares : List ℕ → Answer Shares
-shares w = unless (refusal w) (shares-of (pooled w) (largest w))
+shares w = unless (refusal w) (result (pooled w) (largest w))

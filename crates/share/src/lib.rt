@@ -7,8 +7,9 @@ ghost use mathlib.Core.Path.{_≡_};
 ghost use Prim.Native.Nat.{ℕ, suc, _+_, _^_, _≤_, _<_, min, max};
 ghost use lib.ListN.{length, take, getD};
 ghost use Rattle.reading.specs.Table.{max-text, room, row-width};
-ghost use Rattle.share.specs.Answers.{fraction, told, told-words, largest-of, With, below};
+ghost use Rattle.share.specs.Answers.{told, told-words};
 ghost use Rattle.share.specs.Shares.{max-texts, text-width, texts, word-of, wrong, first-wrong, sum, gcd, share, larger, ranked, shares};
+ghost use Rattle.share.specs.Steps.{fraction, largest-of, With, below};
 ghost use Rattle.share.specs.Words.{trivia-at, text-words};
 
 pub const MAX_TEXTS: usize = 1000;
@@ -246,7 +247,7 @@ pub enum TextAnswer {
     WrongText,
 }
 
-// The trivia bytes of a row. No reading has one whose low is before its tlow.
+// The trivia bytes of a row: none where its low is before its tlow.
 fn trivia_at(rows: &[u32], row: usize) -> usize
     requires { ⌜ row < room row-width (now rows) ⌝ }
     ensures { λ r. ⌜ (r ≡ trivia-at (now (rows .entry)) row) × (r < 2 ^ 32) ⌝ }

@@ -1,5 +1,5 @@
 -- What a caller in C or Rust sees of a call: the number returned, the numbers behind the pointers, and the tables. Each is a function of what
--- crate reading defines for that call. Crate parser has that of reading a text, since its call means the same.
+-- crate reading, or for shares crate share, defines for that call. Crate parser has that of reading a text, since its call means the same.
 use mathlib.Core.Bool.{cond}
 use mathlib.Core.List.{List}
 use mathlib.Core.Option.{Option, none, some}
@@ -77,6 +77,10 @@ exported-walk a = record { code = code-of a; root = subtree-of a .root; before =
 
 -- Shares of trivia ----------------------------------------------------------
 
+-- what a caller takes the numbers for
+abbrev pub taken-for : {A : Type 0} → ℕ → ℕ → A → Answer A
+taken-for code given x = cond (eqb code 0) (answered x) (refused code given)
+
 pub record SeenShares : Type 0 where
   pub code : ℕ
   pub numerator : ℕ
@@ -108,11 +112,9 @@ exported-shares a =
       given = given-of a;
     }
 
--- what a caller takes them for
 abbrev pub answer-seen : SeenShares → Answer Shares
 answer-seen x =
-    cond (eqb (x .code) 0)
-    (answered
+    taken-for (x .code) (x .given)
     (record {
       numerator = x .numerator;
       denominator = x .denominator;
@@ -120,8 +122,7 @@ answer-seen x =
       first = x .first;
       second = x .second;
       third = x .third;
-    }))
-    (refused (x .code) (x .given))
+    })
 
 -- The two words of a text ---------------------------------------------------
 
@@ -149,3 +150,6 @@ exported-words x =
       length = text-of (x .answer) .length;
       given = given-of (x .answer);
     }
+
+abbrev pub text-seen : SeenWords → Answer Text
+text-seen x = taken-for (x .code) (x .given) (record { trivia = x .trivia; length = x .length })

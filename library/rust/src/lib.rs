@@ -71,11 +71,6 @@ pub mod enough {
     pub const fn item_words(bytes: usize) -> usize {
         bytes * super::ITEM
     }
-
-    /// Top rows are some of the rows.
-    pub const fn root_words(bytes: usize) -> usize {
-        4 * bytes + 1
-    }
 }
 
 /// The state that goes from one text to the next. The default is that of a first text.
@@ -503,7 +498,7 @@ mod tests {
 
     /// Every number is set, refused or not. The safe functions keep those of a refusal back, so the calls are made without them.
     #[test]
-    fn numbers_are_set() {
+    fn numbers_of_shares() {
         let lists = [
             (&[3, 6][..], 0, [1, 2], [1, 0, 0, 0, 0]),
             (&[0; 2002], 27, [0; 2], [0, 0, 0, 0, 1001]),
@@ -529,6 +524,10 @@ mod tests {
             };
             assert_eq!((code, found, rest), (refusal, share, sizes));
         }
+    }
+
+    #[test]
+    fn numbers_of_text_words() {
         // a row with a byte of trivia
         let rows = [8, 1, 0, 1, 1, 0];
         let texts = [

@@ -1,8 +1,8 @@
 //! Random inputs, against plain Rust: numbers, trivia runs, walks of the rows of a text and its words, and lists of shares.
 
 use vireopatch::{
-    enough, item, items, read, shares, text_words, value, walk, NumberType, Refusal, Shares, State,
-    TextWords, ITEM, MAX_LEVEL, MAX_TEXT, MAX_TEXTS, ROW, TEXT,
+    column, enough, item, items, read, shares, text_words, value, walk, NumberType, Refusal,
+    Shares, State, TextWords, ITEM, MAX_LEVEL, MAX_TEXT, MAX_TEXTS, ROW, TEXT,
 };
 
 /// SplitMix64.
@@ -174,18 +174,16 @@ fn walks() {
         let mut rows = vec![7; enough::row_words(text.len())];
         let mut errors = vec![7; enough::error_words(text.len())];
         let mut requests = vec![7; enough::request_words(text.len())];
-        let start = State::default();
         let reading = read(
             &text,
-            start,
+            State::default(),
             MAX_LEVEL,
             &mut rows,
             &mut errors,
             &mut requests,
         )
         .unwrap();
-        let (mut count, mut low) = (reading.rows, text.len());
-        let (mut trivia, mut tops) = (0, vec![]);
+        let (mut count, mut low, mut tops) = (reading.rows, text.len(), vec![]);
         while count > 0 {
             let subtree = walk(&rows, count).unwrap();
             let row = &rows[subtree.root * ROW..][..ROW];
@@ -198,22 +196,32 @@ fn walks() {
             let mut table = vec![7; enough::item_words(run.len())];
             assert!(items(run, &mut table).is_ok(), "{run:?}");
             (count, low) = (subtree.before, row[2] as usize);
-            trivia += run.len() as u32;
             tops.insert(0, subtree.root);
         }
         assert_eq!(low, 0, "{text:?}");
-        let mut roots = vec![7; rng.below(tops.len() + 3)];
-        let answer = text_words(&text, &rows, reading.rows, &mut roots);
-        if roots.len() < tops.len() {
-            assert_eq!(answer, Err(Refusal::NoRoomForRows(tops.len())), "{text:?}");
-            assert!(roots.iter().all(|r| *r == 0));
-        } else {
-            let length = text.len() as u32;
-            assert_eq!(answer, Ok(TextWords { trivia, length }), "{text:?}");
-            tops.resize(roots.len(), 0);
-            assert_eq!(roots, tops, "{text:?}");
-        }
+        let roots = vec![7; rng.below(tops.len() + 3)];
+        check_words(&text, &rows[..reading.rows * ROW], tops, roots);
     }
+}
+
+/// The words of a text and its top rows, in a table of roots that may be too small.
+fn check_words(text: &[u8], rows: &[u32], mut tops: Vec<usize>, mut roots: Vec<usize>) {
+    let answer = text_words(text, rows, rows.len() / ROW, &mut roots);
+    if roots.len() < tops.len() {
+        assert_eq!(answer, Err(Refusal::NoRoomForRows(tops.len())), "{text:?}");
+        tops.clear();
+    } else {
+        let trivia = tops
+            .iter()
+            .map(|r| rows[r * ROW + column::LOW] - rows[r * ROW + column::TLOW]);
+        let words = TextWords {
+            trivia: trivia.sum(),
+            length: text.len() as u32,
+        };
+        assert_eq!(answer, Ok(words), "{text:?}");
+    }
+    tops.resize(roots.len(), 0);
+    assert_eq!(roots, tops, "{text:?}");
 }
 
 fn gcd(a: u128, b: u128) -> u128 {
