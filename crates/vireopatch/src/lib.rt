@@ -287,15 +287,15 @@ pub extern "C" fn vireopatch_shares(
     ensures { λ r. ⌜ seen-shares r (now (numerator .exit)) (now (denominator .exit)) (now (count .exit)) (now (first .exit)) (now (second .exit)) (now (third .exit)) (now (given .exit)) ≡ exported-shares (shares (now (words .entry))) ⌝ }
 {
     let answer = share::shares(words);
-    let n = shares_numbers_of(answer);
-    *numerator = n.numerator;
-    *denominator = n.denominator;
-    *count = n.count;
-    *first = n.first;
-    *second = n.second;
-    *third = n.third;
-    *given = n.given;
-    n.code
+    let s = shares_numbers_of(answer);
+    *numerator = s.numerator;
+    *denominator = s.denominator;
+    *count = s.count;
+    *first = s.first;
+    *second = s.second;
+    *third = s.third;
+    *given = s.given;
+    s.code
 }
 
 struct WordsNumbers {
