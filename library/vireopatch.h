@@ -393,15 +393,15 @@ uint32_t vireopatch_shares(
  *
  * text, text_len    the text that was read
  * rows, rows_len    the table of rows that vireopatch_read filled for it; nothing is written
- * count             its row_count
+ * count             its row_count; with fewer rows, or none, the words are of those rows' top rows alone
  * roots, roots_len  a table for the numbers of the top rows, counted from 0, first to last: roots_len words of type size_t. `count` words are
  *                   always enough
  * trivia, length    set to the two words; 0 for a refusal
  * given             set to what the refusal gives; 0 for an answer
  *
  * Returns 0, or the first of these that applies: 13, for rows and a count that are no subtrees one behind the other; 6, for fewer words in
- * roots than there are top rows; 28, which gives 0. 13 and 28 are for rows that are not this text's: no reading of the text itself has had them in
- * any run, but that is not proved.
+ * roots than there are top rows; 28, which gives 0, for a text over VIREOPATCH_MAX_TEXT or rows with more trivia than it has bytes. A text's
+ * own reading has had neither 13 nor 28 in any run, but that is not proved.
  *
  * The table afterwards. Answer and 28: the top rows, and 0 in every word behind the last. 13: as it was. 6: 0 in every word.
  */

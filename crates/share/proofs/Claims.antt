@@ -9,7 +9,7 @@ use native.Mathlib.Nat.{eq-one-of-dvd-one, mul-div-cancel', mul-assoc, mul-comm,
 use borrow.Author.Tests.{eq-eqb, eqb-true, ltb-true, ltb-false}
 use lib.Dec.{ltb, eqb}
 use lib.ListN.{length, length-take, List·getD-eq-default}
-use Rattle.reading.specs.Table.{Answer, refused, max-text}
+use Rattle.reading.specs.Table.{Answer, answered, refused, max-text}
 use Rattle.share.specs.Answers.{told}
 use Rattle.share.specs.Claims.{All, all-trivia, all-bytes, Lowest, Ordered, Out, listed, Answered, Refused, too-many as more-texts, wrong-text, Claimed}
 use Rattle.share.specs.Shares.{Fraction, Shares, max-texts, texts, trivia-of, length-of, wrong, or-else, first-wrong, sum, gcd, share, ahead, ranked, result, pooled, largest, shares}
@@ -191,10 +191,12 @@ module _ (w : List ℕ) where
 pub shares-claims : (w : List ℕ) (r : SharesAnswer) → told r ≡ shares w → Claimed w (told r)
 shares-claims w r m = subst (λ (a : Answer Shares). Claimed w a) (sym m) (claimed w)
 
--- a list of texts that are not wrong is refused for their number alone
-pub refused-many : (w : List ℕ) → ((i : ℕ) → i < texts w → wrong (trivia-of w i) (length-of w i) ≡ false) → (k g : ℕ) → shares w ≡ refused k g → k ≡ 27
-refused-many w h k g e = go k g (subst (λ (a : Answer Shares). Claimed w a) e (claimed w))
+-- a list to which neither 27 nor 28 applies is answered, by any call that the page holds of
+pub right-answered : (w : List ℕ) (a : Answer Shares) → Claimed w a → texts w ≤ max-texts
+    → ((i : ℕ) → i < texts w → wrong (trivia-of w i) (length-of w i) ≡ false) → (s : Shares) × (a ≡ answered s)
+right-answered w (answered s) c h r = (s, refl)
+right-answered w (refused k g) c h r = absurd (go c)
   where
-    go : (k g : ℕ) → Refused w k g → k ≡ 27
-    go k g (more-texts l) = refl
-    go k g (wrong-text l i q f) = absurd (true≢false (sym q ∙ h g i))
+    go : {k g : ℕ} → Refused w k g → ⊥
+    go (more-texts l) = omega (arith, h, l)
+    go (wrong-text l i q f) = true≢false (sym q ∙ r _ i)

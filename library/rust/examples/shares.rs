@@ -14,7 +14,10 @@ fn main() {
         // The top rows are some of the rows, so there is room for them.
         let mut roots = vec![0; reading.rows];
         let words = text_words(&text, &rows, reading.rows, &mut roots);
-        texts.push(words.unwrap_or_else(|refusal| example::refused(refusal)));
+        texts.push(words.unwrap_or_else(|refusal| {
+            eprintln!("shares: {}: refused", file.display());
+            example::refused(refusal)
+        }));
     }
     let words: Vec<u32> = texts.iter().flat_map(|t| [t.trivia, t.length]).collect();
     let found = shares(&words).unwrap_or_else(|refusal| example::refused(refusal));

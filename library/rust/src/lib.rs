@@ -378,7 +378,7 @@ pub fn shares(words: &[u32]) -> Result<Shares, Refusal> {
 /// The two words of a text from its reading, the rows and their count: the trivia bytes of its top rows, tlow to low of each and that of the
 /// end too, and its length. The numbers of the top rows are listed in `roots`, first to last; `count` words are always enough.
 ///
-/// Refusals 13, 6, 28. An answer and 28 leave zeros behind the last top row; 13 leaves the table as it was, 6 zeroes it.
+/// Refusals 13, 6, 28; 28 gives 0. An answer and 28 leave zeros behind the last top row; 13 leaves the table as it was, 6 zeroes it.
 pub fn text_words(
     text: &[u8],
     rows: &[u32],
