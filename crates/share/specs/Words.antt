@@ -39,9 +39,10 @@ abbrev pub unless-refused : Answer ℕ → Answer Text → Answer Text
 unless-refused (answered n) a = a
 unless-refused (refused k g) a = refused k g
 
--- the trivia of the top rows, and the length; the table is what `tops` leaves
+-- the table is what `tops` leaves
 abbrev pub told-over : Listed → Answer Text → Told
 told-over x a = record { answer = unless-refused (x .answer) a; table = x .table }
 
+-- the trivia of the top rows, and the length
 unfoldable pub text-words : List ℕ → List ℕ → ℕ → List ℕ → Told
 text-words text rows count roots = told-over (tops-listed rows count roots) (text-answer (trivia-sum rows (rows-of (top-rows rows count))) (length text))
