@@ -70,9 +70,9 @@ static struct lent load(const char *name) {
     struct lent t = {.n = fread(text, 1, LONGEST, f), .rows = words(0), .errors = words(0), .requests = words(0)};
     fclose(f);
     for (uint32_t r = read_text(&t); r != 0; r = read_text(&t)) {
-        if (r == 6) t.rows = words(t.rows_len = t.given * 6);
-        else if (r == 7) t.errors = words(t.errors_len = t.given * 3);
-        else if (r == 8) t.requests = words(t.requests_len = t.given * 2);
+        if (r == VIREOPATCH_NO_ROOM_FOR_ROWS) t.rows = words(t.rows_len = t.given * VIREOPATCH_ROW_WORDS);
+        else if (r == VIREOPATCH_NO_ROOM_FOR_ERRORS) t.errors = words(t.errors_len = t.given * VIREOPATCH_ERROR_WORDS);
+        else if (r == VIREOPATCH_NO_ROOM_FOR_REQUESTS) t.requests = words(t.requests_len = t.given * VIREOPATCH_REQUEST_WORDS);
         else exit(2);
     }
     t.roots = memory(t.row_count * sizeof(size_t));

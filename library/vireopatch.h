@@ -62,7 +62,8 @@ enum {
 
 /*
  * The words of a row, and how many there are. Rows stand children first, in the order of the text, then the parent. Trivia (blanks, line
- * ends, comments) is tlow to low, equal if there is none; the body is low to high. Places are byte offsets in the text.
+ * ends, comments) is tlow to low, equal if there is none; the body is low to high. Places are byte offsets in the text. The line is 1 plus the
+ * LF bytes of the text before low, those of the row's trivia too; a CR counts nothing.
  */
 enum {
     VIREOPATCH_ROW_KIND   = 0,  /* VIREOPATCH_KIND_.. */
@@ -71,7 +72,8 @@ enum {
     VIREOPATCH_ROW_LOW    = 3,
     VIREOPATCH_ROW_HIGH   = 4,
     VIREOPATCH_ROW_DETAIL = 5,  /* what the kind says; 0 for a kind that says nothing */
-    VIREOPATCH_ROW_WORDS  = 6
+    VIREOPATCH_ROW_LINE   = 6,  /* the line that its body begins on, counted from 1 */
+    VIREOPATCH_ROW_WORDS  = 7
 };
 
 /* The words of an error. */

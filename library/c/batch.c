@@ -87,7 +87,7 @@ static void check_rest(const struct reading *r)
 
 static void print_listing(const struct reading *r)
 {
-    static const char *const heading[KINDS] = {"kind size tlow low high detail|", "error low high|", "request low high|"};
+    static const char *const heading[KINDS] = {"kind size tlow low high detail line|", "error low high|", "request low high|"};
     for (int k = 0; k < KINDS; k++) {
         fputs(heading[k], stdout);
         for (size_t i = 0; i < r->count[k] * width[k]; i++)

@@ -11,7 +11,7 @@ static void print_records(const uint32_t *words, size_t count, size_t width)
 static int print_listing(struct text text, const struct reading *r)
 {
     (void)text;
-    printf("kind size tlow low high detail\n");
+    printf("kind size tlow low high detail line\n");
     print_records(r->rows, r->row_count, VIREOPATCH_ROW_WORDS);
     printf("error low high\n");
     print_records(r->errors, r->error_count, VIREOPATCH_ERROR_WORDS);

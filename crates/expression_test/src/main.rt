@@ -107,7 +107,7 @@ fn part(kind: u8, s: &[u8], low: usize) {
     if reading::MAX_TEXT < s.len() {
         return;
     }
-    let mut rows = [0u32; 1536];
+    let mut rows = [0u32; 256 * table::ROW];
     let c = Cursor {
         at: Pos(low),
         count: RowIndex(0),
@@ -154,12 +154,20 @@ fn print_rows(rows: &[u32], n: usize) {
         if n <= i / table::ROW {
             return;
         }
-        io::print_decimal(STDOUT_FILENO, wide(rows[i]));
-        if i % table::ROW == table::column::DETAIL {
-            io::write_all(STDOUT_FILENO, b"\n");
-        } else {
-            io::write_all(STDOUT_FILENO, b" ");
-        }
+        print_word(wide(rows[i]), i % table::ROW);
         i += 1;
+    }
+}
+
+// A word of a row. The line is left out: it is filled in only when a whole text was read.
+fn print_word(x: u64, column: usize) {
+    if column == table::column::LINE {
+        return;
+    }
+    io::print_decimal(STDOUT_FILENO, x);
+    if column == table::column::DETAIL {
+        io::write_all(STDOUT_FILENO, b"\n");
+    } else {
+        io::write_all(STDOUT_FILENO, b" ");
     }
 }

@@ -28,7 +28,7 @@ fn listing(text: &[u8]) {
         output::not_read(r);
         return;
     };
-    io::write_all(STDOUT_FILENO, b"kind size tlow low high detail\n");
+    io::write_all(STDOUT_FILENO, b"kind size tlow low high detail line\n");
     records(&rows, x.rows, table::ROW);
     io::write_all(STDOUT_FILENO, b"error low high\n");
     records(&errors, x.errors, table::ERROR);

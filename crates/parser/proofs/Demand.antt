@@ -1,5 +1,5 @@
 -- Demand 3 (specs/Demand) of the outcome, of whatever shows it, and of `parser::read`.
-use mathlib.Core.Path.{_≡_, refl, ap, sym, subst, _∙_}
+use mathlib.Core.Path.{_≡_, refl, ap, ap₂, sym, subst, _∙_}
 use mathlib.Core.Bool.{Bool, true, false}
 use mathlib.Core.List.{List}
 use mathlib.Core.Logic.{_⊎_, inl, inr}
@@ -120,7 +120,7 @@ module _ (a b : Call) (s : SameText a b) where
   same-need requests = ap (λ (o : Reply Rows). length (state-of o .requests)) same-reading
 
   same-words : (k : Kind) → words k a ≡ words k b
-  same-words rows = ap (λ (o : Reply Rows). row-words (rows-of o)) same-reading
+  same-words rows = ap₂ (λ (t : List ℕ) (o : Reply Rows). row-words t (rows-of o)) (s .text) same-reading
   same-words errors = ap (λ (o : Reply Rows). error-words (state-of o .errors)) same-reading
   same-words requests = ap (λ (o : Reply Rows). request-words (state-of o .requests)) same-reading
 

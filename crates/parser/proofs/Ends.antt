@@ -3,7 +3,7 @@ use mathlib.Core.Path.{_≡_, refl, ap, sym, subst, _∙_}
 use mathlib.Core.Bool.{Bool, true, false}
 use mathlib.Core.List.{List, [], _∷_, _++_}
 use mathlib.Core.Option.{none, some}
-use Prim.Native.Nat.{ℕ, _+_, _*_, _-_, _≤_, _<_}
+use Prim.Native.Nat.{ℕ, _+_, _*_, _-_, _/_, _≤_, _<_}
 use native.Mathlib.Omega.{arith}
 use borrow.Author.Tests.{lt-ltb, le-ltb, ltb-true, lt-leb}
 use native.Mathlib.Nat.{mul-le-mul-right, zero-add}
@@ -16,6 +16,9 @@ use Rattle.reading.specs.Outcome.{Call, Outcome, reading, needs, refusal, left,
 use Rattle.reading.proofs.Answers.{Answered, written-answers}
 use Rattle.table.specs.Words.{Holds, HoldsRows}
 use Rattle.table.proofs.Holds.{holds-filled}
+use Rattle.line.specs.Lines.{lined}
+use Rattle.line.proofs.Fills.{lined-length}
+use Rattle.line.proofs.Rows.{holds-lined}
 use Rattle.reading.specs.Rules.{source-file}
 use Rattle.cursor.specs.Text.{cursor}
 use Rattle.cursor.specs.declared.Cursor.{Cursor}
@@ -33,6 +36,9 @@ same-outcome : {r r′ e e′ q q′ n n′ : ℕ} {f f′ : Bool} {t t′ u u�
     → _≡_ {A = Outcome} (record { answer = answered (record { rows = r; errors = e; requests = q }); scope = n; swallow = f; rows = t; errors = u; requests = v })
     (record { answer = answered (record { rows = r′; errors = e′; requests = q′ }); scope = n′; swallow = f′; rows = t′; errors = u′; requests = v′ })
 same-outcome a b c d g h i j = cc (a, b, c, d, g, h, i, j)
+
+filled-same : (ws u u₀ : List ℕ) → length u ≡ length u₀ → filled ws u ≡ filled ws u₀
+filled-same ws u u₀ h = ap (λ (m : ℕ). ws ++ zeros (m - length ws)) h
 
 module _ {s : List ℕ} {n : ℕ} {f : Bool} {l : ℕ} {r : Done} {t e q : List ℕ} (x : Read-so s n f l r t e q) where
   abbrev this : Call
@@ -119,7 +125,7 @@ module _ {s : List ℕ} {n : ℕ} {f : Bool} {l : ℕ} {r : Done} {t e q : List 
     nothing : (w : ℕ) (u : List ℕ) → Holds w u []
     nothing w u = record { word = λ i g k. absurd (let z : ⊥ = omega arith in z) }
 
-    held-rows : Holds row-width t (row-words (rows-of (reading this)))
+    held-rows : HoldsRows t (rows-of (reading this))
     unfolding state-after rows-read
     held-rows =
         let y : HoldsRows t (rows-read (written s n f)) = x .acts .rows (low-so (written s n f) (seen .is)) [] refl (nothing row-width (x .t₀)) in
@@ -128,7 +134,7 @@ module _ {s : List ℕ} {n : ℕ} {f : Bool} {l : ℕ} {r : Done} {t e q : List 
         low-so : (o : Reply Rows) → o ≡ ok (seen .v) (seen .q) (seen .w) → state-after o .peak ≤ l
         low-so o i = subst (λ (y : Reply Rows). state-after y .peak ≤ l) (sym i) (seen .low)
 
-        turn : (o : Reply Rows) → HoldsRows t (rows-read o) → Holds row-width t (row-words (rows-of o))
+        turn : (o : Reply Rows) → HoldsRows t (rows-read o) → HoldsRows t (rows-of o)
         turn (ok v p w) y = y
         turn (err w) y = y
 
@@ -146,31 +152,35 @@ module _ {s : List ℕ} {n : ℕ} {f : Bool} {l : ℕ} {r : Done} {t e q : List 
         turn (ok v p w) y = y
         turn (err w) y = y
 
-    -- zeros behind the last record of each kind
-    pub read-meets : d .count .0 ≤ room row-width t → st .errors ≤ room error-width e → st .requests ≤ room request-width q → {t′ e′ q′ : List ℕ}
-        → t′ ≡ take (d .count .0 * row-width) t ++ zeros (length t - d .count .0 * row-width)
+    -- the lines of the rows, and zeros behind the last record of each kind
+    pub read-meets : d .count .0 ≤ room row-width t → st .errors ≤ room error-width e → st .requests ≤ room request-width q → {u t′ e′ q′ : List ℕ}
+        → u ≡ lined s t (d .count .0)
+        → t′ ≡ take (d .count .0 * row-width) u ++ zeros (length u - d .count .0 * row-width)
         → e′ ≡ take (st .errors * error-width) e ++ zeros (length e - st .errors * error-width)
         → q′ ≡ take (st .requests * request-width) q ++ zeros (length q - st .requests * request-width)
         → Meets this t′ e′ q′ (Read (record { rows = d .count .0; errors = st .errors; requests = st .requests; scope = st .scope; swallow = st .swallow }))
     unfolding outcome needs
-    read-meets i j k a b c =
+    read-meets i j k {u} o a b c =
         let z : refusal this ≡ none = fits-none this readable enough in
         let k₁ = kept-is rows in
         let k₂ = kept-is errors in
         let k₃ = kept-is requests in
         let w₁ : st .scope ≡ state-of (reading this) .scope = ap (λ (y : Kept). y .scope) (sym (seen .state)) ∙ ap (λ (o : Reply Rows). state-of o .scope) (sym (seen .is)) in
         let w₂ : st .swallow ≡ state-of (reading this) .swallow = ap (λ (y : Kept). y .swallow) (sym (seen .state)) ∙ ap (λ (o : Reply Rows). state-of o .swallow) (sym (seen .is)) in
-        let t₁ = a ∙ filled-so rows i held-rows in
-        let t₂ = b ∙ filled-so errors j (held-log .errors) in
-        let t₃ = c ∙ filled-so requests k (held-log .requests) in
+        let whole : Holds row-width u (row-words s (rows-of (reading this))) =
+        subst (λ (x : List ℕ). Holds row-width x (row-words s (rows-of (reading this)))) (sym o) (holds-lined s t (rows-of (reading this)) (d .count .0) k₁ i held-rows) in
+        let t₁ = a ∙ filled-so rows u (ap length o ∙ lined-length s t (d .count .0)) i whole in
+        let t₂ = b ∙ filled-so errors e refl j (held-log .errors) in
+        let t₃ = c ∙ filled-so requests q refl k (held-log .requests) in
         record { outcome-is = same-outcome k₁ k₂ k₃ w₁ w₂ t₁ t₂ t₃ ∙ sym (ap (settled this) z) }
       where
-        filled-so : (y : Kind) → kept-of y ≤ room (width y) (lent y this) → Holds (width y) (lent y this) (words y this)
-            → take (kept-of y * width y) (lent y this) ++ zeros (length (lent y this) - kept-of y * width y) ≡ filled (words y this) (lent y this)
-        filled-so y g u =
-            let v = words-are y this in
-            let o : kept-of y * width y ≡ length (words y this) = ap (λ (m : ℕ). m * width y) (kept-is y) ∙ sym v in
-            holds-filled (width y) (lent y this) (words y this) (kept-of y * width y) u (omega (arith, mul-le-mul-right (width y) g, o)) o
+        filled-so : (y : Kind) (x : List ℕ) → length x ≡ length (lent y this) → kept-of y ≤ room (width y) (lent y this) → Holds (width y) x (words y this)
+            → take (kept-of y * width y) x ++ zeros (length x - kept-of y * width y) ≡ filled (words y this) (lent y this)
+        filled-so y x h g v =
+            let o : kept-of y * width y ≡ length (words y this) = ap (λ (m : ℕ). m * width y) (kept-is y) ∙ sym (words-are y this) in
+            let r : room (width y) x ≡ room (width y) (lent y this) = ap (λ (m : ℕ). m / width y) h in
+            holds-filled (width y) x (words y this) (kept-of y * width y) v (omega (arith, mul-le-mul-right (width y) g, o, ap (_* width y) r)) o
+            ∙ filled-same (words y this) x (lent y this) h
 
         enough : (y : Kind) → Enough y this
         enough rows = omega (arith, kept-is rows)
@@ -193,9 +203,6 @@ settled-same c d false false true h i j k m x y = y 7 k (omega arith)
 settled-same c d false false false true i j k m x y = y 8 m (omega arith)
 settled-same c d false false false false i j k m x y = x none refl
 
-filled-same : (ws u u₀ : List ℕ) → length u ≡ length u₀ → filled ws u ≡ filled ws u₀
-filled-same ws u u₀ h = ap (λ (m : ℕ). ws ++ zeros (m - length ws)) h
-
 left-same : (m : ℕ) → 4 < m → (u u₀ : List ℕ) → length u ≡ length u₀ → left m u ≡ left m u₀
 left-same m h u u₀ i = rw (lt-leb m 4 h) (filled-same [] u u₀ i)
 
@@ -210,7 +217,7 @@ module _ (s : List ℕ) (n : ℕ) (f : Bool) (l : ℕ) (t t₀ e e₀ q q₀ : L
   answer-same : (x : Test) → x ≡ none → settled (call s n f l t e q) x ≡ settled (call s n f l t₀ e₀ q₀) x
   unfolding needs
   answer-same x h =
-      let x₁ = filled-same (row-words (rows-of (written s n f))) t t₀ a in
+      let x₁ = filled-same (row-words s (rows-of (written s n f))) t t₀ a in
       let x₂ = filled-same (error-words (state-of (written s n f) .errors)) e e₀ b in
       let x₃ = filled-same (request-words (state-of (written s n f) .requests)) q q₀ c in
       rw (h, x₁, x₂, x₃)

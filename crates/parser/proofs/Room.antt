@@ -10,7 +10,8 @@ use lib.Dec.{ltb}
 use lib.ListN.{length}
 use Rattle.reading.specs.Reading.{rows-of, state-of}
 use Rattle.reading.specs.Table.{max-text, max-scope, max-level, Answer, answered, refused, Test, when, found, first, first-high, row-width, error-width, row-words, error-words, request-words, room, filled}
-use Rattle.table.proofs.Holds.{words-length, rows-written, errors-written, requests-written}
+use Rattle.table.proofs.Holds.{words-length, errors-written, requests-written}
+use Rattle.line.proofs.Rows.{rows-written}
 use Rattle.reading.specs.Outcome.{Call, Counts, reading, needs, refusal, settled, outcome}
 use Rattle.parser.specs.Seen.{code-of, given-of, Seen, exported}
 use Rattle.parser.specs.Demand.{count, table, Answered}
@@ -18,7 +19,7 @@ pub use Rattle.parser.specs.Demand.{Kind, rows, errors, requests, number
 
 -- the words that the reading puts into a table
 abbrev pub words : Kind → Call → List ℕ
-words rows c = row-words (rows-of (reading c))
+words rows c = row-words (c .text) (rows-of (reading c))
 words errors c = error-words (state-of (reading c) .errors)
 words requests c = request-words (state-of (reading c) .requests)
 
@@ -140,7 +141,7 @@ fits-none c h r =
 -- Answers ------------------------------------------------------------------
 
 pub words-are : (k : Kind) (c : Call) → length (words k c) ≡ need k c * width k
-words-are rows c = words-length rows-written (rows-of (reading c))
+words-are rows c = words-length (rows-written (c .text)) (rows-of (reading c))
 words-are errors c = words-length errors-written (state-of (reading c) .errors)
 words-are requests c = words-length requests-written (state-of (reading c) .requests)
 

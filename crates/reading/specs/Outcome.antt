@@ -74,7 +74,7 @@ settled c none =
       answer = answered (needs c);
       scope = state-of (reading c) .scope;
       swallow = state-of (reading c) .swallow;
-      rows = filled (row-words (rows-of (reading c))) (c .rows);
+      rows = filled (row-words (c .text) (rows-of (reading c))) (c .rows);
       errors = filled (error-words (state-of (reading c) .errors)) (c .errors);
       requests = filled (request-words (state-of (reading c) .requests)) (c .requests);
     }

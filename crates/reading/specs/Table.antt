@@ -1,10 +1,10 @@
 -- What the public calls answer, and the lent tables' words: document 01, "A reading and its room".
-use mathlib.Core.Bool.{Bool, true, false}
+use mathlib.Core.Bool.{Bool, true, false, cond}
 use mathlib.Core.List.{List, [], _∷_, _++_}
 use mathlib.Core.Option.{Option, none, some}
 use Prim.Native.Nat.{ℕ, zero, suc, _+_, _-_, _/_}
-use lib.Dec.{leb}
-use lib.ListN.{length}
+use lib.Dec.{leb, eqb}
+use lib.ListN.{length, take}
 use Rattle.reading.specs.Grammar.{Row, Error, Request}
 
 -- a value, or a refusal: its number and what it gives
@@ -44,19 +44,44 @@ abbrev pub first-high : ℕ → List ℕ → Option ℕ
 first-high i [] = none
 first-high i (b ∷ t) = elim (leb 128 b) [ true ↦ some i | false ↦ first-high (suc i) t ]
 
--- the words of the records, one after another
-abbrev pub row-width : ℕ
-row-width = 6
+-- the line of a place: 1 plus the number of LF bytes of the text before it
+abbrev pub line-feeds : List ℕ → ℕ
+line-feeds [] = 0
+line-feeds (b ∷ t) = cond (eqb b 10) (suc (line-feeds t)) (line-feeds t)
 
+unfoldable pub line : List ℕ → ℕ → ℕ
+line text place = 1 + line-feeds (take place text)
+
+-- the columns of a row, in their order: how many there are, where those stand that are asked for by their place, and the words. The line is no
+-- part of the reading: it is told by the text and the row's low.
+abbrev pub row-width : ℕ
+row-width = 7
+
+abbrev pub size-column : ℕ
+size-column = 1
+
+abbrev pub tlow-column : ℕ
+tlow-column = 2
+
+abbrev pub low-column : ℕ
+low-column = 3
+
+abbrev pub line-column : ℕ
+line-column = 6
+
+abbrev pub columns : List ℕ → Row → List ℕ
+columns text r = r .kind ∷ r .size ∷ r .tlow ∷ r .low ∷ r .high ∷ r .detail ∷ line text (r .low) ∷ []
+
+-- the words of the records, one after another
 abbrev pub error-width : ℕ
 error-width = 3
 
 abbrev pub request-width : ℕ
 request-width = 2
 
-abbrev pub row-words : List Row → List ℕ
-row-words [] = []
-row-words (r ∷ rs) = r .kind ∷ r .size ∷ r .tlow ∷ r .low ∷ r .high ∷ r .detail ∷ row-words rs
+abbrev pub row-words : List ℕ → List Row → List ℕ
+row-words text [] = []
+row-words text (r ∷ rs) = columns text r ++ row-words text rs
 
 abbrev pub error-words : List Error → List ℕ
 error-words [] = []

@@ -4,15 +4,15 @@ use mathlib.Core.List.{List}
 use Prim.Native.Nat.{ℕ, _+_, _*_, _-_}
 use lib.Dec.{ltb, eqb}
 use lib.ListN.{getD}
-use Rattle.reading.specs.Table.{Answer, answered, refused, room, row-width}
+use Rattle.reading.specs.Table.{Answer, answered, refused, room, row-width, size-column}
 
 pub record Subtree : Type 0 where
   pub root : ℕ
   pub before : ℕ
 
--- the size that the last of n rows has: the second word of its record
+-- the size that the last of n rows has
 abbrev pub size-at : List ℕ → ℕ → ℕ
-size-at table n = getD table ((n - 1) * row-width + 1) 0
+size-at table n = getD table ((n - 1) * row-width + size-column) 0
 
 unfoldable pub walk : List ℕ → ℕ → Answer Subtree
 walk table n =

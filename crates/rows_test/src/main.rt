@@ -3,6 +3,8 @@ use libc::STDIN_FILENO;
 use libc::STDOUT_FILENO;
 use parser::Answer;
 use rows::TopsAnswer;
+use table::ERROR;
+use table::REQUEST;
 use table::ROW;
 use table::column;
 
@@ -13,9 +15,9 @@ fn main() {
 }
 
 fn read(text: &[u8]) {
-    let mut words = [0u32; 3072];
-    let mut errors = [0u32; 24];
-    let mut requests = [0u32; 16];
+    let mut words = [0u32; 512 * ROW];
+    let mut errors = [0u32; 8 * ERROR];
+    let mut requests = [0u32; 8 * REQUEST];
     let r = parser::read(text, 0, false, 32, &mut words, &mut errors, &mut requests);
     let Answer::Read(x) = r else {
         io::write_all(STDOUT_FILENO, b"no reading\n");

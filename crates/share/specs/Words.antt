@@ -4,13 +4,13 @@ use mathlib.Core.List.{List, []}
 use Prim.Native.Nat.{ℕ, _+_, _*_, _-_}
 use lib.ListN.{length, getD}
 use Rattle.reading.specs.Items.{Listed}
-use Rattle.reading.specs.Table.{Answer, answered, refused, row-width}
+use Rattle.reading.specs.Table.{Answer, answered, refused, row-width, tlow-column, low-column}
 use Rattle.rows.specs.Tops.{top-rows, tops-listed}
 use Rattle.share.specs.Shares.{sum, wrong}
 
 -- the trivia bytes of a row: low less tlow, or 0 where low is before tlow
 abbrev pub trivia-at : List ℕ → ℕ → ℕ
-trivia-at rows r = getD rows (r * row-width + 3) 0 - getD rows (r * row-width + 2) 0
+trivia-at rows r = getD rows (r * row-width + low-column) 0 - getD rows (r * row-width + tlow-column) 0
 
 -- of some rows together
 abbrev pub trivia-sum : List ℕ → List ℕ → ℕ

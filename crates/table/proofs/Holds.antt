@@ -10,8 +10,8 @@ use lib.Dec.{ltb}
 use lib.ListN.{length, getD, set, take, length-set, length-append, List·getD-append}
 use lib.Seq.{length-sets, length-take-le, getD-set-same, getD-set-other, getD-append-add, getD-take, ext-getD}
 use Rattle.reading.specs.Grammar.{Row, Rows, Error, Request, placed}
-use Rattle.reading.specs.Table.{row-width, error-width, request-width, row-words, error-words, request-words, room, zeros, filled}
-use Rattle.table.specs.Words.{put, pushed, replaced, row-record, error-record, request-record, record-of, Holds, HoldsRows}
+use Rattle.reading.specs.Table.{row-width, tlow-column, error-width, request-width, error-words, request-words, room, zeros, filled}
+use Rattle.table.specs.Words.{put, pushed, replaced, row-record, error-record, request-record, record-of, drafts, Holds, HoldsRows}
 
 -- Words that are put -------------------------------------------------------
 
@@ -70,8 +70,8 @@ pub replaced-length : (t : List ℕ) (n a b z : ℕ) → length (replaced t n a 
 unfolding replaced
 replaced-length t n a b z = go (ltb n (room row-width t))
   where
-    go : (x : Bool) → length (cond x (put t (n * row-width + 2) (a ∷ b ∷ z ∷ [])) t) ≡ length t
-    go true = length-sets t (n * row-width + 2) (a ∷ b ∷ z ∷ [])
+    go : (x : Bool) → length (cond x (put t (n * row-width + tlow-column) (a ∷ b ∷ z ∷ [])) t) ≡ length t
+    go true = length-sets t (n * row-width + tlow-column) (a ∷ b ∷ z ∷ [])
     go false = refl
 
 in-room : (w : ℕ) (t : List ℕ) (n : ℕ) → n < room w t → n * w + w ≤ length t
@@ -102,7 +102,7 @@ module _ (w : ℕ) (t : List ℕ) where
       (both m (put t k ws) k (k + length ws) ws c refl (λ j i l. put-at ws t k j g i) (kept m t k (k + length ws) c ws (λ j i l. omega arith) q)))
 
   -- words replaced inside
-  holds-inside : (k : ℕ) (a b c ws : List ℕ) → length a ≡ k → length b ≡ length ws → k + length ws ≤ length t → Holds w t (a ++ (b ++ c)) → Holds w (put t k ws) (a ++ (ws ++ c))
+  pub holds-inside : (k : ℕ) (a b c ws : List ℕ) → length a ≡ k → length b ≡ length ws → k + length ws ≤ length t → Holds w t (a ++ (b ++ c)) → Holds w (put t k ws) (a ++ (ws ++ c))
   holds-inside k a b c ws e f g h =
       let m : ℕ = room w t * w in
       holds-put k a ws c e g (holds-front a (b ++ c) h) (back m t k (k + length ws) b c (omega arith) (back m t 0 k a (b ++ c) (omega arith) (agree (a ++ (b ++ c)) h)))
@@ -149,7 +149,7 @@ module _ {A : Type 0} {w : ℕ} {rec : A → List ℕ} {f : List A → List ℕ}
       rw (words-append xs (x ∷ []), l .cons x [], l .nil, append-nil (rec x))
       (holds-record w t (f xs) (rec x) n (l .some) (l .len x) (rw e (words-length xs)) h)
 
-pub rows-written : Writes row-width record-of row-words
+pub rows-written : Writes row-width record-of drafts
 rows-written = record { some = omega arith; len = λ x. refl; nil = refl; cons = λ x xs. refl }
 
 pub errors-written : Writes error-width (λ (x : Error). error-record (x .code) (x .low) (x .high)) error-words
@@ -160,38 +160,38 @@ requests-written = record { some = omega arith; len = λ x. refl; nil = refl; co
 
 -- Rows ---------------------------------------------------------------------
 
-pub row-words-append : (a b : Rows) → row-words (a ++ b) ≡ row-words a ++ row-words b
-row-words-append = words-append rows-written
+pub drafts-append : (a b : Rows) → drafts (a ++ b) ≡ drafts a ++ drafts b
+drafts-append = words-append rows-written
 
-pub row-words-length : (rs : Rows) → length (row-words rs) ≡ length rs * row-width
-row-words-length = words-length rows-written
+pub drafts-length : (rs : Rows) → length (drafts rs) ≡ length rs * row-width
+drafts-length = words-length rows-written
 
 pub holds-push : (t : List ℕ) (rs : Rows) (n : ℕ) (x : Row) → n ≡ length rs → HoldsRows t rs → HoldsRows (pushed row-width t n (record-of x)) (rs ++ (x ∷ []))
 holds-push = holds-more rows-written
 
 pub holds-prefix : (t : List ℕ) (a b : Rows) → HoldsRows t (a ++ b) → HoldsRows t a
-holds-prefix t a b h = holds-front row-width t (row-words a) (row-words b) (rw row-words-append at h)
+holds-prefix t a b h = holds-front row-width t (drafts a) (drafts b) (rw drafts-append at h)
 
 place-last : (t : List ℕ) (pre : Rows) (r : Row) (n a b z : ℕ) → n ≡ length pre → HoldsRows t (pre ++ (r ∷ [])) → HoldsRows (replaced t n a b z) (pre ++ placed a b z (r ∷ []))
 unfolding replaced
-place-last t pre r n a b z e h = rw (row-words-append pre (placed a b z (r ∷ []))) (go (ltb n (room row-width t)) refl)
+place-last t pre r n a b z e h = rw (drafts-append pre (placed a b z (r ∷ []))) (go (ltb n (room row-width t)) refl)
   where
-    old : Holds row-width t (row-words pre ++ record-of r)
-    old = rw (row-words-append pre (r ∷ [])) at h
+    old : Holds row-width t (drafts pre ++ record-of r)
+    old = rw (drafts-append pre (r ∷ [])) at h
 
-    len : length (row-words pre) ≡ n * row-width
-    len = rw e (row-words-length pre)
+    len : length (drafts pre) ≡ n * row-width
+    len = rw e (drafts-length pre)
 
     go : (x : Bool) → ltb n (room row-width t) ≡ x
-        → Holds row-width (cond x (put t (n * row-width + 2) (a ∷ b ∷ z ∷ [])) t) (row-words pre ++ row-record (r .kind) (r .size) a b z (r .detail))
+        → Holds row-width (cond x (put t (n * row-width + tlow-column) (a ∷ b ∷ z ∷ [])) t) (drafts pre ++ row-record (r .kind) (r .size) a b z (r .detail))
     go true q =
-        rw (append-assoc (row-words pre) (r .kind ∷ r .size ∷ [])) at
-        (holds-inside row-width t (n * row-width + 2) (row-words pre ++ (r .kind ∷ r .size ∷ [])) (r .tlow ∷ r .low ∷ r .high ∷ []) (r .detail ∷ []) (a ∷ b ∷ z ∷ [])
-        (omega (arith, length-append (row-words pre) (r .kind ∷ r .size ∷ []), len))
+        rw (append-assoc (drafts pre) (r .kind ∷ r .size ∷ [])) at
+        (holds-inside row-width t (n * row-width + tlow-column) (drafts pre ++ (r .kind ∷ r .size ∷ [])) (r .tlow ∷ r .low ∷ r .high ∷ []) (r .detail ∷ 0 ∷ []) (a ∷ b ∷ z ∷ [])
+        (omega (arith, length-append (drafts pre) (r .kind ∷ r .size ∷ []), len))
         refl
         (omega (arith, in-room row-width t n (ltb-true n (room row-width t) q)))
-        (rw (append-assoc (row-words pre) (r .kind ∷ r .size ∷ [])) old))
-    go false q = holds-out row-width t (row-words pre) (row-record (r .kind) (r .size) a b z (r .detail)) (omega (arith, len, ltb-false n (room row-width t) q)) (holds-front row-width t (row-words pre) (record-of r) old)
+        (rw (append-assoc (drafts pre) (r .kind ∷ r .size ∷ [])) old))
+    go false q = holds-out row-width t (drafts pre) (row-record (r .kind) (r .size) a b z (r .detail)) (omega (arith, len, ltb-false n (room row-width t) q)) (holds-front row-width t (drafts pre) (record-of r) old)
 
 pub holds-place : (t : List ℕ) (pre acc : Rows) (n a b z : ℕ) → 1 ≤ length acc → suc n ≡ length (pre ++ acc) → HoldsRows t (pre ++ acc) → HoldsRows (replaced t n a b z) (pre ++ placed a b z acc)
 holds-place t pre [] n a b z o e h = absurd (let x : ⊥ = omega arith in x)

@@ -10,3 +10,5 @@ pub const LOW: usize = 3;
 pub const HIGH: usize = 4;
 
 pub const DETAIL: usize = 5;
+
+pub const LINE: usize = 6;

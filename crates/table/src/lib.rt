@@ -1,5 +1,5 @@
 // Places, row numbers, and the lent tables. All code has the widths of records and the columns of rows from here. The definition has the widths
-// and the order of the words in crate reading (specs/Table, and the size's place in specs/Walk), and the contracts say that both agree.
+// and the order of the words in crate reading (specs/Table), and the contracts say that both agree.
 // Outside stay the width of an item of trivia (crate trivia, which pushes one as it would an error) and the numbers in the C header, which
 // library/compare holds to these.
 ghost use mathlib.Core.Path.{_≡_};
@@ -21,13 +21,14 @@ pub struct Pos(pub usize);
 pub struct RowIndex(pub usize);
 
 // The words of a record.
-pub const ROW: usize = 6;
+pub const ROW: usize = 7;
 
 pub const ERROR: usize = 3;
 
 pub const REQUEST: usize = 2;
 
-// A row with this number, if the table has room for it.
+// A row with this number, if the table has room for it. Its line is filled in when all rows stand. No division here: one by the width
+// takes more time than the rest.
 pub fn push_row(
     rows: &mut [u32],
     n: RowIndex,
@@ -42,14 +43,18 @@ pub fn push_row(
     ensures { λ _. ⌜ now (rows .exit) ≡ pushed row-width (now (rows .entry)) (n .0) (row-record kind size (tlow .0) (low .0) (high .0) detail) ⌝ }
 {
     let n = n.0;
-    if n < rows.len() / ROW {
-        let i = n * ROW;
+    if rows.len() <= n {
+        return;
+    }
+    let i = n * ROW;
+    if i + ROW <= rows.len() {
         rows[i] = kind as u32;
         rows[i + column::SIZE] = size as u32;
         rows[i + column::TLOW] = tlow.0 as u32;
         rows[i + column::LOW] = low.0 as u32;
         rows[i + column::HIGH] = high.0 as u32;
         rows[i + column::DETAIL] = detail as u32;
+        rows[i + column::LINE] = 0;
     }
 }
 

@@ -35,8 +35,8 @@ struct Mark {
 
 // Cases by kind; `ended` once no input was left.
 struct Counts {
-    equal: [usize; 8],
-    different: [usize; 8],
+    equal: [usize; 9],
+    different: [usize; 9],
     ended: bool,
 }
 
@@ -48,8 +48,8 @@ fn main() {
 // The input in parts of 65,536 bytes. No case lies across two of them.
 fn parts() -> Counts {
     let mut counts = Counts {
-        equal: [0; 8],
-        different: [0; 8],
+        equal: [0; 9],
+        different: [0; 9],
         ended: false,
     };
     let mut part: usize = 0;
@@ -105,11 +105,11 @@ fn line(
     if !same {
         differs(part, at);
     }
-    counted(counts, kind.value % 8, same)
+    counted(counts, kind.value % 9, same)
 }
 
 fn counted(counts: Counts, kind: usize, same: bool) -> Counts
-    requires { ⌜ kind < 8 ⌝ }
+    requires { ⌜ kind < 9 ⌝ }
 {
     let mut equal = counts.equal;
     let mut different = counts.different;
@@ -439,14 +439,14 @@ fn report(counts: Counts) {
     let mut kind: usize = 0;
     let mut e: usize = 0;
     let mut d: usize = 0;
-    while kind < 8 {
+    while kind < 9 {
         name(kind);
         total(equal[kind], different[kind]);
         e = wrapping_add_usize(e, equal[kind]);
         d = wrapping_add_usize(d, different[kind]);
         kind += 1;
     }
-    name(8);
+    name(9);
     total(e, d);
 }
 
@@ -460,6 +460,7 @@ fn name(kind: usize) {
         5 => io::write_all(STDOUT_FILENO, b"from a state "),
         6 => io::write_all(STDOUT_FILENO, b"others "),
         7 => io::write_all(STDOUT_FILENO, b"in larger limits "),
+        8 => io::write_all(STDOUT_FILENO, b"lines "),
         _ => io::write_all(STDOUT_FILENO, b"all "),
     }
     ;

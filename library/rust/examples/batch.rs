@@ -37,7 +37,7 @@ fn listing(text: &[u8], start: State) -> String {
             return format!("! {number} {given}");
         }
     };
-    let mut out = String::from("kind size tlow low high detail|");
+    let mut out = String::from("kind size tlow low high detail line|");
     put_records(&mut out, &rows, reading.rows, ROW);
     out.push_str("error low high|");
     put_records(&mut out, &errors, reading.errors, ERROR);

@@ -15,7 +15,7 @@ fn print_records(words: &[u32], count: usize, width: usize) {
 fn main() {
     let (_, [rows, errors, requests], reading) =
         example::read_text("listing", std::env::args_os().nth(1));
-    println!("kind size tlow low high detail");
+    println!("kind size tlow low high detail line");
     print_records(&rows, reading.rows, ROW);
     println!("error low high");
     print_records(&errors, reading.errors, ERROR);

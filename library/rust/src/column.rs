@@ -6,3 +6,4 @@ pub const TLOW: usize = 2;
 pub const LOW: usize = 3;
 pub const HIGH: usize = 4;
 pub const DETAIL: usize = 5;
+pub const LINE: usize = 6;

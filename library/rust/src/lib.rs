@@ -4,7 +4,7 @@
 //! their lengths, and a refusal is an `Err`. Nothing allocates and nothing panics.
 //!
 //! ```
-//! use vireopatch::{enough, kind, read, State, ROW};
+//! use vireopatch::{column, enough, kind, read, State, ROW};
 //!
 //! let text = b"lda #1\n";
 //! let mut rows = vec![0; enough::row_words(text.len())];
@@ -12,7 +12,8 @@
 //! let mut requests = vec![0; enough::request_words(text.len())];
 //! let reading = read(text, State::default(), 64, &mut rows, &mut errors, &mut requests).unwrap();
 //! assert_eq!((reading.rows, reading.errors, reading.requests), (9, 0, 0));
-//! assert_eq!(rows[8 * ROW], kind::EOF);
+//! assert_eq!(rows[8 * ROW + column::KIND], kind::EOF);
+//! assert_eq!(rows[8 * ROW + column::LINE], 2);
 //! ```
 
 #![no_std]
@@ -23,9 +24,9 @@ pub mod detail;
 pub mod item;
 pub mod kind;
 
-/// Words of a row: kind, size, tlow, low, high, detail ([`column`]). Rows stand children first, then the parent; size counts the rows of the subtree.
-/// Trivia is tlow to low, the body low to high; places are byte offsets.
-pub const ROW: usize = 6;
+/// Words of a row: kind, size, tlow, low, high, detail, line ([`column`]). Rows stand children first, then the parent; size counts the rows of the
+/// subtree. Trivia is tlow to low, the body low to high; places are byte offsets. The line is 1 plus the LF bytes of the text before low.
+pub const ROW: usize = 7;
 
 /// Words of an error: code, low, high.
 pub const ERROR: usize = 3;
@@ -529,7 +530,7 @@ mod tests {
     #[test]
     fn numbers_of_text_words() {
         // a row with a byte of trivia
-        let rows = [8, 1, 0, 1, 1, 0];
+        let rows = [8, 1, 0, 1, 1, 0, 1];
         let texts = [
             (&b" "[..], 1, 1, (0, 1, 1, 0)),
             (b" ", 2, 1, (13, 0, 0, 2)),

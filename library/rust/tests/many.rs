@@ -161,6 +161,15 @@ fn trivia_runs() {
     assert!(answered > 10_000, "{answered}");
 }
 
+/// The line of each row is 1 plus the line feeds before its low.
+fn check_lines(text: &[u8], rows: &[u32]) {
+    for row in rows.chunks_exact(ROW) {
+        let before = &text[..row[column::LOW] as usize];
+        let feeds = before.iter().filter(|b| **b == b'\n').count();
+        assert_eq!(row[column::LINE] as usize, 1 + feeds, "{text:?}");
+    }
+}
+
 /// Top rows cover the text; the trivia before each is one run of items, and all of it is the first word of the text.
 #[test]
 fn walks() {
@@ -183,6 +192,7 @@ fn walks() {
             &mut requests,
         )
         .unwrap();
+        check_lines(&text, &rows[..reading.rows * ROW]);
         let (mut count, mut low, mut tops) = (reading.rows, text.len(), vec![]);
         while count > 0 {
             let subtree = walk(&rows, count).unwrap();

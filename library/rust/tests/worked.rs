@@ -1,9 +1,9 @@
 //! Document 01's worked texts, and its refusals; the shares of document 02 (F-14).
 
 use vireopatch::{
-    detail, enough, item, items, kind, read, shares, text_words, value, walk, NumberType, Reading,
-    Refusal, Shares, State, Subtree, TextWords, ERROR, ITEM, MAX_LEVEL, MAX_TEXT, MAX_TEXTS,
-    REQUEST, ROW, TEXT,
+    column, detail, enough, item, items, kind, read, shares, text_words, value, walk, NumberType,
+    Reading, Refusal, Shares, State, Subtree, TextWords, ERROR, ITEM, MAX_LEVEL, MAX_TEXT,
+    MAX_TEXTS, REQUEST, ROW, TEXT,
 };
 
 struct Tables {
@@ -87,7 +87,7 @@ fn of_kind(t: &Tables, kind: u32) -> Vec<[u32; ROW]> {
 #[test]
 fn empty() {
     let t = tables("");
-    assert_eq!(t.rows, [[kind::EOF, 1, 0, 0, 0, 0]]);
+    assert_eq!(t.rows, [[kind::EOF, 1, 0, 0, 0, 0, 1]]);
     assert!(t.errors.is_empty() && t.requests.is_empty());
     assert_eq!(t.end, State::default());
 }
@@ -98,19 +98,32 @@ fn instruction() {
     assert_eq!(
         t.rows,
         [
-            [kind::MNEMONIC, 1, 0, 0, 3, detail::mnemonic::LDA],
-            [kind::CHAR, 1, 3, 4, 5, b'#' as u32],
-            [kind::NUMBER_TYPE, 1, 5, 5, 5, detail::number_type::DEC],
-            [kind::NUMBER_TEXT, 1, 5, 5, 6, 0],
-            [kind::NUMBER, 3, 5, 5, 6, 0],
-            [kind::FACTOR, 4, 5, 5, 6, 0],
-            [kind::OPERAND, 6, 3, 4, 6, detail::mode::IMMEDIATE],
-            [kind::INSTRUCTION, 8, 0, 0, 6, 0],
-            [kind::EOF, 1, 6, 7, 7, 0],
+            [kind::MNEMONIC, 1, 0, 0, 3, detail::mnemonic::LDA, 1],
+            [kind::CHAR, 1, 3, 4, 5, b'#' as u32, 1],
+            [kind::NUMBER_TYPE, 1, 5, 5, 5, detail::number_type::DEC, 1],
+            [kind::NUMBER_TEXT, 1, 5, 5, 6, 0, 1],
+            [kind::NUMBER, 3, 5, 5, 6, 0, 1],
+            [kind::FACTOR, 4, 5, 5, 6, 0, 1],
+            [kind::OPERAND, 6, 3, 4, 6, detail::mode::IMMEDIATE, 1],
+            [kind::INSTRUCTION, 8, 0, 0, 6, 0, 1],
+            [kind::EOF, 1, 6, 7, 7, 0, 2],
         ]
     );
     assert!(t.errors.is_empty() && t.requests.is_empty());
     assert_eq!(t.end, State::default());
+}
+
+/// A CR counts nothing, and the line feeds in a row's trivia count.
+#[test]
+fn lines() {
+    let at = |text| -> Vec<u32> { tables(text).rows.iter().map(|r| r[column::LINE]).collect() };
+    assert_eq!(at("\n\n\n"), [4]);
+    assert_eq!(at("\r\n"), [2]);
+    assert_eq!(at("\r"), [1]);
+    assert_eq!(at("nop\n /*\n*/ nop"), [1, 1, 3, 3, 3]);
+    // the end of a block, the block and the statement; the end that is supplied copies the place of the brace
+    assert_eq!(at("\n{\nnop\n}"), [2, 3, 3, 4, 2, 2, 4]);
+    assert_eq!(at("\n{\nnop\n"), [2, 3, 3, 2, 2, 2, 4]);
 }
 
 #[test]
@@ -302,8 +315,8 @@ fn walks() {
     assert_eq!(walk(&words, 7), Ok(Subtree { root: 6, before: 0 }));
     assert_eq!(walk(&words, 0), Err(Refusal::NoSubtree(0)));
     assert_eq!(walk(&words, 9), Err(Refusal::NoSubtree(9)));
-    assert_eq!(walk(&words[..47], 8), Err(Refusal::NoSubtree(8)));
-    assert_eq!(walk(&[0; 6], 1), Err(Refusal::NoSubtree(1)));
+    assert_eq!(walk(&words[..8 * ROW - 1], 8), Err(Refusal::NoSubtree(8)));
+    assert_eq!(walk(&[0; ROW], 1), Err(Refusal::NoSubtree(1)));
 }
 
 /// The share, and the indexes that are there; absent ones are 0.
@@ -400,7 +413,7 @@ fn words_of_texts() {
 
 #[test]
 fn refused_words_of_texts() {
-    let row = |size, tlow, low| [kind::ERROR, size, tlow, low, low, 0];
+    let row = |size, tlow, low| [kind::ERROR, size, tlow, low, low, 0, 1];
     let two = |first: [u32; ROW], second: [u32; ROW]| [first, second].concat();
     // 13 gives the count at which no subtree ends, and leaves the table; it comes before 6 and 28
     let text = b"abc";
@@ -408,7 +421,7 @@ fn refused_words_of_texts() {
     let no_subtree = |count| (Err(Refusal::NoSubtree(count)), vec![7; 3]);
     assert_eq!(words_in(text, &rows, 2, 3), (Ok((3, 3)), vec![0, 1, 0]));
     assert_eq!(words_in(text, &rows, 3, 3), no_subtree(3));
-    assert_eq!(words_in(text, &rows[..11], 2, 3), no_subtree(2));
+    assert_eq!(words_in(text, &rows[..2 * ROW - 1], 2, 3), no_subtree(2));
     assert_eq!(words_in(text, &rows, usize::MAX, 3), no_subtree(usize::MAX));
     let rows = two(row(0, 0, 9), row(1, 0, 9));
     assert_eq!(words_in(text, &rows, 2, 3), no_subtree(1));

@@ -3,6 +3,7 @@ use mathlib.Core.Path.{refl}
 use Prim.Native.Nat.{_+_, _*_}
 use native.Mathlib.Omega.{arith}
 use borrow.Author.Needs.{needs}
+use Rattle.reading.specs.Table.{row-width, tlow-column, low-column}
 use Rattle.share.proofs.trivia_at.Statement.{statement}
 use Rattle.share.proofs.trivia_at.Tie as tie
 
@@ -19,7 +20,7 @@ shared-slice-read-tlow : tie.Need-shared-slice-read-tlow
 shared-slice-read-tlow c = search needs
 
 cast-tlow : tie.Need-cast-tlow
-cast-tlow c = omega (arith, c .shared-slice-known .given (c .before .args .row * 6 + 2))
+cast-tlow c = omega (arith, c .shared-slice-known .given (c .before .args .row * row-width + tlow-column))
 
 mul-low : tie.Need-mul-low
 mul-low c = search needs
@@ -34,13 +35,13 @@ shared-slice-read-low : tie.Need-shared-slice-read-low
 shared-slice-read-low c = search needs
 
 cast-low : tie.Need-cast-low
-cast-low c = omega (arith, c .shared-slice-known2 .given (c .before .before .args .row * 6 + 3))
+cast-low c = omega (arith, c .shared-slice-known2 .given (c .before .before .args .row * row-width + low-column))
 
 returns : tie.Need-returns
 returns c = search needs
 
 returns-2 : tie.Need-returns-2
-returns-2 c = (refl, omega (arith, c .before .shared-slice-known2 .given (c .before .before .before .args .row * 6 + 3)))
+returns-2 c = (refl, omega (arith, c .before .shared-slice-known2 .given (c .before .before .before .args .row * row-width + low-column)))
 
 pub trivia-at-spec : {M : Type 1} → statement M
 trivia-at-spec =

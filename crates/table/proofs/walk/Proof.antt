@@ -2,6 +2,7 @@
 use Prim.Native.Nat.{_+_, _*_, _-_}
 use native.Mathlib.Omega.{arith}
 use borrow.Author.Tests.{eq-eqb, ne-eqb, lt-ltb, le-ltb}
+use Rattle.reading.specs.Table.{row-width, size-column}
 use Rattle.reading.specs.Walk.{walk}
 use borrow.Author.Needs.{needs}
 use Rattle.table.proofs.walk.Statement.{statement}
@@ -31,7 +32,7 @@ shared-slice-read-size : tie.Need-shared-slice-read-size
 shared-slice-read-size c = search needs
 
 cast-size : tie.Need-cast-size
-cast-size c = omega (arith, c .shared-slice-known .given ((c .before .before .before .args .count - 1) * 6 + 1))
+cast-size c = omega (arith, c .shared-slice-known .given ((c .before .before .before .args .count - 1) * row-width + size-column))
 
 returns-3 : tie.Need-returns-3
 unfolding walk

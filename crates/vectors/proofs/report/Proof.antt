@@ -8,7 +8,7 @@ abbrev Inv-loop : tie.InvT-loop
 Inv-loop equal different kind₀ e₀ d₀ kind e d = Unit {0}
 
 abbrev μ-loop : tie.MeasureT-loop
-μ-loop equal different kind₀ e₀ d₀ kind e d = 8 - kind
+μ-loop equal different kind₀ e₀ d₀ kind e d = 9 - kind
 
 loop-holds : tie.Need-loop-holds Inv-loop μ-loop
 loop-holds c = tt

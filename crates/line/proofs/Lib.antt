@@ -1,0 +1,4 @@
+pub mod Lines
+pub mod Fills
+pub mod Stretches
+pub mod Rows
