@@ -1,8 +1,8 @@
 // The line of every row: 1 plus the line feeds of the text before its low. One pass fills the column in behind the reading, when the rows are
-// complete. It is linear. Rows come in the order in which their last bytes were read: most stand on the line that the pass has reached, or ahead of
-// it, and no byte ahead is looked at more than twice. A row that goes back starts from a row that has its line and is near: the first of its subtree
-// mostly begins at the same place, and where trivia lies between, as in a call behind line feeds, its first child is as near as any. The proofs ask
-// of that row only that it has its line.
+// complete, and it is linear. Rows come in the order in which their last bytes were read. Most begin on the line that the pass has reached, or
+// ahead of it: that takes the bytes since the row before, and a block. A row that goes back starts from one that has its line and is near. The
+// first row of its subtree mostly begins where it does; if not, as where line feeds stand before the name of a call, its first child is as near as
+// any. The proofs ask of that row only that it has its line.
 use table::Walked;
 use table::column;
 ghost use mathlib.Core.Path.{_≡_};
@@ -55,8 +55,8 @@ fn first_feed(text: &[u8], at: usize) -> usize
     let mut first: u8 = 64;
     let mut j: usize = 0;
     while j < BLOCK {
-        let here = if text[at + j] == b'\n' { j as u8 } else { 64 };
-        first = if here < first { here } else { first };
+        let found = if text[at + j] == b'\n' { j as u8 } else { 64 };
+        first = if found < first { found } else { first };
         j += 1;
     }
     first as usize

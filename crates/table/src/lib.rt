@@ -27,8 +27,8 @@ pub const ERROR: usize = 3;
 
 pub const REQUEST: usize = 2;
 
-// A row with this number, if the table has room for it. Its line is filled in when all rows stand. No division here: one by the width
-// takes more time than the rest.
+// A row with this number, if the table has room for it. Its line is filled in when all rows stand. The room is not worked out: a division by the
+// width takes longer than the stores.
 pub fn push_row(
     rows: &mut [u32],
     n: RowIndex,

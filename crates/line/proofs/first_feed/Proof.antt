@@ -22,8 +22,8 @@ add-if1 c = omega arith
 shared-slice-read-if1 : tie.Need-shared-slice-read-if1 Inv-loop μ-loop
 shared-slice-read-if1 c = omega arith
 
-cast-here : tie.Need-cast-here Inv-loop μ-loop
-cast-here c = omega arith
+cast-found : tie.Need-cast-found Inv-loop μ-loop
+cast-found c = omega arith
 
 add-j : tie.Need-add-j Inv-loop μ-loop
 add-j c = omega arith
@@ -32,7 +32,7 @@ loop-less : tie.Need-loop-less Inv-loop μ-loop
 loop-less c = omega arith
 
 loop-again : tie.Need-loop-again Inv-loop μ-loop
-loop-again c = let z : (c .if2 .first ≤ c .before .before .before .before .loop .first) × (c .if2 .first ≤ c .before .if1 .here) = elim (c .if2 .came) [ inl x ↦ (let e : c .if2 .first ≡ c .before .if1 .here = x .1 in (omega (arith, e, x .0 .taken), omega (arith, e))) | inr x ↦ (let e : c .if2 .first ≡ c .before .before .before .before .loop .first = x .1 in (omega (arith, e), omega (arith, e, x .0 .left))) ] in (omega arith, omega (arith, z .0, c .before .before .before .before .loop .inv .1), clear-more (c .before .if1 .here) (c .before .before .before .before .loop .inv .2) (elim (c .before .if1 .came) [ inl x ↦ inl (x .1) | inr x ↦ inr (x .0 .left) ]) _ (z .0) (z .1))
+loop-again c = let z : (c .if2 .first ≤ c .before .before .before .before .loop .first) × (c .if2 .first ≤ c .before .if1 .found) = elim (c .if2 .came) [ inl x ↦ (let e : c .if2 .first ≡ c .before .if1 .found = x .1 in (omega (arith, e, x .0 .taken), omega (arith, e))) | inr x ↦ (let e : c .if2 .first ≡ c .before .before .before .before .loop .first = x .1 in (omega (arith, e), omega (arith, e, x .0 .left))) ] in (omega arith, omega (arith, z .0, c .before .before .before .before .loop .inv .1), clear-more (c .before .if1 .found) (c .before .before .before .before .loop .inv .2) (elim (c .before .if1 .came) [ inl x ↦ inl (x .1) | inr x ↦ inr (x .0 .left) ]) _ (z .0) (z .1))
 
 cast-result : tie.Need-cast-result Inv-loop μ-loop
 cast-result c = omega arith
@@ -49,7 +49,7 @@ first-feed-spec =
     loop-holds
     add-if1
     shared-slice-read-if1
-    cast-here
+    cast-found
     add-j
     loop-less
     loop-again
