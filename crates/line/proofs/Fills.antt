@@ -2,13 +2,13 @@
 use mathlib.Core.Path.{_≡_, refl, ap, sym, subst, _∙_}
 use mathlib.Core.Bool.{Bool, true, false}
 use mathlib.Core.List.{List}
-use Prim.Native.Nat.{ℕ, zero, suc, _+_, _*_, _≤_, _<_}
+use Prim.Native.Nat.{ℕ, zero, suc, _+_, _≤_, _<_}
 use native.Mathlib.Omega.{arith}
 use borrow.Author.Tests.{eqb-true, eqb-false}
 use lib.Dec.{eqb}
 use lib.ListN.{length, getD, set, length-set}
 use lib.Seq.{getD-set-same, getD-set-other}
-use Rattle.reading.specs.Table.{row-width, low-column, line-column, room, line}
+use Rattle.reading.specs.Table.{row-width, room, line}
 use Rattle.line.specs.Lines.{low-at, line-at, lined, Numbered}
 
 pub lined-length : (s t : List ℕ) (n : ℕ) → length (lined s t n) ≡ length t

@@ -13,8 +13,8 @@ ghost use Rattle.reading.specs.Table.{max-text, row-width, room, line};
 ghost use Rattle.line.specs.Lines.{Level, Numbered, lined};
 ghost use Rattle.line.specs.Marks.{On, Marked};
 
-// How many bytes are looked at together.
-const BLOCK: usize = 64;
+// How many bytes are looked at together; contracts and bytes below have the number again.
+const BLOCK: usize = 96;
 
 // Places that are known to stand on one line, from the first of them to the last.
 struct Stretch {
@@ -49,20 +49,20 @@ fn line_feeds(text: &[u8], from: usize, to: usize) -> u32
 // How many bytes of the block from here on stand before its first line feed. Every byte is looked at, and the number is a byte, so that the
 // compiler compares many at once and nothing is jumped over.
 fn first_feed(text: &[u8], at: usize) -> usize
-    requires { ⌜ at + 64 ≤ length (now text) ⌝ }
-    ensures { λ r. ⌜ (r ≤ 64) × Level (now (text .entry)) at (at + r) ⌝ }
+    requires { ⌜ at + 96 ≤ length (now text) ⌝ }
+    ensures { λ r. ⌜ (r ≤ 96) × Level (now (text .entry)) at (at + r) ⌝ }
 {
-    let mut first: u8 = 64;
+    let mut first: u8 = 96;
     let mut j: usize = 0;
     while j < BLOCK {
-        let found = if text[at + j] == b'\n' { j as u8 } else { 64 };
+        let found = if text[at + j] == b'\n' { j as u8 } else { 96 };
         first = if found < first { found } else { first };
         j += 1;
     }
     first as usize
 }
 
-// A place on the same line, as far as its line feed or the block's end. Of the last bytes of a text nothing is told.
+// A place on the same line, as far as its line feed or the block's end; the place itself where the text has no whole block any more.
 fn clear_end(text: &[u8], at: usize) -> usize
     ensures { λ r. ⌜ (at ≤ r) × Level (now (text .entry)) at r ⌝ }
 {
@@ -90,7 +90,7 @@ fn ahead(text: &[u8], before: Stretch, at: usize) -> Stretch
 // The first row of the last subtree of so many rows; where there is none, their number.
 fn first_row(rows: &[u32], count: usize) -> usize {
     let walked = table::walk(rows, count);
-    if let Walked::Subtree(root, before) = walked {
+    if let Walked::Subtree(_, before) = walked {
         return before;
     }
     count

@@ -149,8 +149,8 @@ module _ {A : Type 0} {w : ℕ} {rec : A → List ℕ} {f : List A → List ℕ}
       rw (words-append xs (x ∷ []), l .cons x [], l .nil, append-nil (rec x))
       (holds-record w t (f xs) (rec x) n (l .some) (l .len x) (rw e (words-length xs)) h)
 
-pub rows-written : Writes row-width record-of drafts
-rows-written = record { some = omega arith; len = λ x. refl; nil = refl; cons = λ x xs. refl }
+pub drafts-written : Writes row-width record-of drafts
+drafts-written = record { some = omega arith; len = λ x. refl; nil = refl; cons = λ x xs. refl }
 
 pub errors-written : Writes error-width (λ (x : Error). error-record (x .code) (x .low) (x .high)) error-words
 errors-written = record { some = omega arith; len = λ x. refl; nil = refl; cons = λ x xs. refl }
@@ -161,13 +161,13 @@ requests-written = record { some = omega arith; len = λ x. refl; nil = refl; co
 -- Rows ---------------------------------------------------------------------
 
 pub drafts-append : (a b : Rows) → drafts (a ++ b) ≡ drafts a ++ drafts b
-drafts-append = words-append rows-written
+drafts-append = words-append drafts-written
 
 pub drafts-length : (rs : Rows) → length (drafts rs) ≡ length rs * row-width
-drafts-length = words-length rows-written
+drafts-length = words-length drafts-written
 
 pub holds-push : (t : List ℕ) (rs : Rows) (n : ℕ) (x : Row) → n ≡ length rs → HoldsRows t rs → HoldsRows (pushed row-width t n (record-of x)) (rs ++ (x ∷ []))
-holds-push = holds-more rows-written
+holds-push = holds-more drafts-written
 
 pub holds-prefix : (t : List ℕ) (a b : Rows) → HoldsRows t (a ++ b) → HoldsRows t a
 holds-prefix t a b h = holds-front row-width t (drafts a) (drafts b) (rw drafts-append at h)

@@ -4,7 +4,7 @@ use mathlib.Core.List.{List}
 use Prim.Native.Nat.{ℕ, _+_, _*_, _-_, _≤_, _<_}
 use native.Mathlib.Omega.{arith}
 use lib.ListN.{length, length-set}
-use Rattle.reading.specs.Table.{row-width, low-column, room}
+use Rattle.reading.specs.Table.{row-width, low-column}
 use Rattle.line.specs.Lines.{lined}
 use Rattle.line.specs.Marks.{On}
 use Rattle.line.proofs.Fills.{lined-more}

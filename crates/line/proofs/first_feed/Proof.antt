@@ -1,5 +1,5 @@
 -- The invariant: as far as the bytes looked at and the first line feed among them go, all is one line.
-use Prim.Native.Nat.{_+_, _-_, _≤_}
+use Prim.Native.Nat.{_-_, _≤_}
 use mathlib.Core.Path.{_≡_}
 use mathlib.Core.Logic.{inl, inr}
 use native.Mathlib.Omega.{arith}
@@ -8,10 +8,10 @@ use Rattle.line.proofs.first_feed.Statement.{statement}
 use Rattle.line.proofs.first_feed.Tie as tie
 
 abbrev Inv-loop : tie.InvT-loop
-Inv-loop text at first₀ j₀ first j = (j ≤ 64) × (first ≤ 64) × Clear text at j first
+Inv-loop text at first₀ j₀ first j = (j ≤ 96) × (first ≤ 96) × Clear text at j first
 
 abbrev μ-loop : tie.MeasureT-loop
-μ-loop text at first₀ j₀ first j = 64 - j
+μ-loop text at first₀ j₀ first j = 96 - j
 
 loop-holds : tie.Need-loop-holds Inv-loop μ-loop
 loop-holds c = (omega arith, omega arith, clear-none _ _ _)

@@ -1,5 +1,5 @@
 -- On the stretch, or counted from a row that has its line, or from the stretch.
-use mathlib.Core.Path.{_≡_, ap, sym, _∙_}
+use mathlib.Core.Path.{ap, sym, _∙_}
 use mathlib.Core.Logic.{inl, inr}
 use Prim.Native.Nat.{_+_, _*_}
 use native.Mathlib.Omega.{arith}

@@ -1,14 +1,13 @@
 -- The invariant: the rows before row n have their lines, and the stretch has its line.
 use mathlib.Core.Path.{_≡_, refl, ap, sym, subst, _∙_}
 use mathlib.Core.Logic.{inl, inr}
-use Prim.Native.Nat.{ℕ, _+_, _*_, _-_, _≤_, _<_}
+use Prim.Native.Nat.{_+_, _*_, _-_, _≤_}
 use native.Mathlib.Omega.{arith}
 use lib.ListN.{length, length-set}
 use borrow.Author.Needs.{needs}
-use Rattle.reading.specs.Table.{row-width, low-column, room}
-use Rattle.line.specs.Lines.{lined, Numbered}
+use Rattle.reading.specs.Table.{row-width, low-column}
+use Rattle.line.specs.Lines.{lined}
 use Rattle.line.specs.Marks.{On}
-use Rattle.line.specs.declared.Stretch.{Stretch}
 use Rattle.line.proofs.Fills.{lined-none, lined-length, numbered-so, lined-more}
 use Rattle.line.proofs.Stretches.{start-on, reaches, reaches-as}
 use Rattle.line.proofs.number.Statement.{statement}
