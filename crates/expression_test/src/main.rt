@@ -159,7 +159,7 @@ fn print_rows(rows: &[u32], n: usize) {
     }
 }
 
-// A word of a row. The line is left out: it is filled in only when a whole text was read.
+// A word of a row. The line is left out: it is filled in by the reader of a file alone.
 fn print_word(x: u64, column: usize) {
     if column == table::column::LINE {
         return;

@@ -12,13 +12,12 @@ use Rattle.line.proofs.Lines.{line-start}
 pub start-on : {s : List ℕ} {to : ℕ} → Level s 0 to → On s (record { from = 0; to = to; line = 1 })
 start-on {s} l = record { ordered = omega arith; line = λ p i j. l .same p i j ∙ line-start s }
 
-pub ahead-on : {s : List ℕ} {x : Stretch} {at to : ℕ} (n : ℕ) → On s x → line s (x .to) + n ≡ line s at → at ≤ to → Level s at to → On s (record { from = at; to = to; line = x .line + n })
-ahead-on {s} {x} {at} {to} n o e h l =
-    record { ordered = h; line = λ p i j. l .same p i j ∙ sym e ∙ ap (_+ n) (o .line (x .to) (o .ordered) (omega arith)) }
+-- line feeds are counted from a place of the stretch before
+pub ahead-on : {s : List ℕ} {x : Stretch} {at to : ℕ} (n k : ℕ) → On s x → (x .from ≤ k) × (k ≤ x .to) → line s k + n ≡ line s at → at ≤ to → Level s at to
+    → On s (record { from = at; to = to; line = x .line + n })
+ahead-on {s} {x} {at} {to} n k o b e h l =
+    record { ordered = h; line = λ p i j. l .same p i j ∙ sym e ∙ ap (_+ n) (o .line k (b .0) (b .1)) }
 
--- a stretch that is another one reaches as far, and one reaches the place where it begins
+-- a stretch that is another one reaches as far
 pub reaches-as : {x y : Stretch} {at : ℕ} → y ≡ x → at ≤ x .to → at ≤ y .to
 reaches-as {x} {y} {at} e h = subst (λ (z : Stretch). at ≤ z .to) (sym e) h
-
-pub reaches : {s : List ℕ} {x y : Stretch} {at : ℕ} → y ≡ x → On s x × (x .from ≡ at) → at ≤ y .to
-reaches e o = reaches-as e (omega (arith, o .0 .ordered, o .1))

@@ -1,32 +1,56 @@
-// The line of every row: 1 plus the line feeds of the text before its low. One pass fills the column in behind the reading, when the rows are
-// complete, and it is linear. Rows come in the order in which their last bytes were read. Most begin on the line that the pass has reached, or
-// ahead of it: that takes the bytes since the row before, and a block. A row that goes back starts from one that has its line and is near. The
-// first row of its subtree mostly begins where it does; if not, as where line feeds stand before the name of a call, its first child is as near as
-// any. The proofs ask of that row only that it has its line.
+// The line of every row: 1 plus the line feeds of the text before its low. One pass over the rows fills the column in, some rows at a time, and it
+// is linear. Rows come in the order in which their last bytes were read. Most begin on the line that the pass has reached, or ahead of it: that
+// takes the bytes since the row before, and a block. A row that goes back starts from one that has its line and is near. The first row of its
+// subtree mostly begins where it does; if not, as where line feeds stand before the name of a call, its first child is as near as any. The proofs
+// ask of that row only that it has its line.
 use table::Walked;
 use table::column;
 ghost use mathlib.Core.Path.{_≡_};
 ghost use mathlib.Core.List.{List};
-ghost use Prim.Native.Nat.{ℕ, _+_, _≤_, _<_};
+ghost use Prim.Native.Nat.{ℕ, _+_, _^_, _≤_, _<_};
 ghost use lib.ListN.{length};
 ghost use Rattle.reading.specs.Table.{max-text, row-width, room, line};
 ghost use Rattle.line.specs.Lines.{Level, Numbered, lined};
 ghost use Rattle.line.specs.Marks.{On, Marked};
 
-// How many bytes are looked at together; contracts and bytes below have the number again.
+// How many bytes are looked at together for a line's end; contracts and bytes below have the number again.
 const BLOCK: usize = 96;
 
+// Line feeds are counted in steps of so many bytes ..
+const STEP: usize = 32;
+
+// .. and at most so many at once, since their number is a byte: a multiple of STEP below 256. A contract below has the number again.
+const RUN: usize = 224;
+
+// A place within so many bytes of a line's end is looked for on the next line.
+const NEAR: usize = 16;
+
 // Places that are known to stand on one line, from the first of them to the last.
-struct Stretch {
-    from: usize,
-    to: usize,
-    line: u32,
+pub struct Stretch {
+    pub from: usize,
+    pub to: usize,
+    pub line: u32,
 }
 
 // A place and its line.
 struct Mark {
     at: usize,
     line: u32,
+}
+
+// The line feeds from one place to another near it. Their number is a byte and nothing is jumped over, so that the compiler compares many at once.
+fn feeds_near(text: &[u8], from: usize, to: usize) -> u8
+    requires { ⌜ (from ≤ to) × (to ≤ from + 224) × (to ≤ length (now text)) ⌝ }
+    ensures { λ r. ⌜ line (now (text .entry)) from + r ≡ line (now (text .entry)) to ⌝ }
+{
+    let mut n: u8 = 0;
+    let mut i = from;
+    while i < to {
+        let one: u8 = if text[i] == b'\n' { 1 } else { 0 };
+        n += one;
+        i += 1;
+    }
+    n
 }
 
 // The line feeds from one place to another.
@@ -38,10 +62,9 @@ fn line_feeds(text: &[u8], from: usize, to: usize) -> u32
     let mut n: u32 = 0;
     let mut i = from;
     while i < end {
-        if text[i] == b'\n' {
-            n += 1;
-        }
-        i += 1;
+        let stop = if end - i < RUN { end } else { i + RUN };
+        n += feeds_near(text, i, stop) as u32;
+        i = stop;
     }
     n
 }
@@ -75,16 +98,69 @@ fn clear_end(text: &[u8], at: usize) -> usize
     at + first_feed(text, at)
 }
 
-// The stretch that begins at a place ahead.
-fn ahead(text: &[u8], before: Stretch, at: usize) -> Stretch
-    requires { ⌜ (length (now text) ≤ max-text) × On (now text) before × (before .to ≤ at) ⌝ }
-    ensures { λ r. ⌜ On (now (text .entry)) r × (r .from ≡ at) ⌝ }
+// A place of the stretch from which whole steps lead to a place ahead, so that no bytes are left over to be compared one by one; its end where it
+// is too short.
+fn steps_from(before: Stretch, at: usize) -> usize
+    requires { ⌜ (before .from ≤ before .to) × (before .to ≤ at) ⌝ }
+    ensures { λ r. ⌜ (before .from ≤ r) × (r ≤ before .to) ⌝ }
 {
+    let back = (STEP - (at - before.to) % STEP) % STEP;
+    if before.to - before.from < back {
+        return before.to;
+    }
+    before.to - back
+}
+
+// The line feed at a place: 1 or 0.
+fn feed(text: &[u8], at: usize) -> u32
+    ensures { λ r. ⌜ line (now (text .entry)) at + r ≡ line (now (text .entry)) (at + 1) ⌝ }
+{
+    if at < text.len() {
+        if text[at] == b'\n' {
+            return 1;
+        }
+    }
+    0
+}
+
+// The stretch that begins behind another one.
+fn next(text: &[u8], before: Stretch) -> Stretch
+    requires { ⌜ (length (now text) ≤ max-text) × On (now text) before × (before .to + 1 < 2 ^ 64) ⌝ }
+    ensures { λ r. ⌜ On (now (text .entry)) r × (r .from ≡ before .to + 1) ⌝ }
+{
+    let at = before.to + 1;
     Stretch {
         from: at,
         to: clear_end(text, at),
-        line: before.line + line_feeds(text, before.to, at),
+        line: before.line + feed(text, before.to),
     }
+}
+
+// The stretch that begins at a place ahead.
+fn stretch_at(text: &[u8], before: Stretch, at: usize) -> Stretch
+    requires { ⌜ (length (now text) ≤ max-text) × On (now text) before × (before .to ≤ at) ⌝ }
+    ensures { λ r. ⌜ On (now (text .entry)) r × (r .from ≡ at) ⌝ }
+{
+    let from = steps_from(before, at);
+    Stretch {
+        from: at,
+        to: clear_end(text, at),
+        line: before.line + line_feeds(text, from, at),
+    }
+}
+
+// A stretch with a place ahead. A place that is near is mostly on the next line, behind some blanks, and the stretch of that line has it.
+fn ahead(text: &[u8], before: Stretch, at: usize) -> Stretch
+    requires { ⌜ (length (now text) ≤ max-text) × On (now text) before × (before .to < at) ⌝ }
+    ensures { λ r. ⌜ On (now (text .entry)) r × (r .from ≤ at) × (at ≤ r .to) ⌝ }
+{
+    if at - before.to <= NEAR {
+        let following = next(text, before);
+        if at <= following.to {
+            return following;
+        }
+    }
+    stretch_at(text, before, at)
 }
 
 // The first row of the last subtree of so many rows; where there is none, their number.
@@ -182,23 +258,40 @@ fn fill(rows: &mut [u32], n: usize, count: usize, here: Stretch) -> usize
     m
 }
 
-// Fills in the line of the first rows of a table, so many.
-pub fn number(text: &[u8], rows: &mut [u32], count: usize)
-    requires { ⌜ (length (now text) ≤ max-text) × (count ≤ room row-width (now rows)) ⌝ }
-    ensures { λ _. ⌜ now (rows .exit) ≡ lined (now (text .entry)) (now (rows .entry)) count ⌝ }
+// The stretch at the start of a text.
+pub fn start(text: &[u8]) -> Stretch
+    ensures { λ r. ⌜ On (now (text .entry)) r ⌝ }
 {
-    let mut here = Stretch {
+    Stretch {
         from: 0,
         to: clear_end(text, 0),
         line: 1,
-    };
-    let mut n: usize = 0;
-    while n < count {
+    }
+}
+
+// Fills in the lines of the rows up to `count`, as far as there is room. The first ones have theirs; `reached` is the stretch to which the pass has
+// come, and the answer the one to which it comes.
+pub fn number(
+    text: &[u8],
+    rows: &mut [u32],
+    first: usize,
+    count: usize,
+    reached: Stretch,
+) -> Stretch
+    requires { ⌜ (length (now text) ≤ max-text) × On (now text) reached × (first ≤ count) × Numbered (now text) (now rows) first ⌝ }
+    ensures { λ r. ⌜ On (now (text .entry)) r × (now (rows .exit) ≡ lined (now (text .entry)) (now (rows .entry)) count) ⌝ }
+{
+    let room = rows.len() / table::ROW;
+    let end = if room < count { room } else { count };
+    let mut here = reached;
+    let mut n = first;
+    while n < end {
         let low = rows[n * table::ROW + column::LOW] as usize;
         if here.to < low {
             here = ahead(text, here, low);
         }
         rows[n * table::ROW + column::LINE] = line_of(text, rows, n, low, here);
-        n = fill(rows, n, count, here);
+        n = fill(rows, n, end, here);
     }
+    here
 }

@@ -22,11 +22,12 @@ use Rattle.line.proofs.Rows.{holds-lined}
 use Rattle.reading.specs.Rules.{source-file}
 use Rattle.cursor.specs.Text.{cursor}
 use Rattle.cursor.specs.declared.Cursor.{Cursor}
-use Rattle.state.specs.Acts.{counts, log, tables, Logged, deep-or, done-of, state-after, rows-read, rules, Acts, Does}
+use Rattle.state.specs.Acts.{counts, log, tables, Logged, deep-or, done-of, state-after, rows-read, rules, Acts}
 use Rattle.state.specs.declared.State.{State as Kept}
 use Rattle.state.specs.declared.Done.{Done}
 use Rattle.state.specs.declared.Done.the-variants.{Got}
 use Rattle.state.proofs.Agree.{Found, found as got-found}
+use Rattle.statement.specs.Lined.{Lined}
 use Rattle.parser.specs.Answers.{told, end-scope, end-swallow, call, Meets, Cleared, Read-so}
 use Rattle.parser.specs.declared.Answer.{Answer}
 use Rattle.parser.specs.declared.Answer.the-variants.{Read, TooLong, HighByte, ScopeTooLarge, LevelTooLarge, TooDeep, NoRoomForRows, NoRoomForErrors, NoRoomForRequests}
@@ -125,62 +126,61 @@ module _ {s : List ℕ} {n : ℕ} {f : Bool} {l : ℕ} {r : Done} {t e q : List 
     nothing : (w : ℕ) (u : List ℕ) → Holds w u []
     nothing w u = record { word = λ i g k. absurd (let z : ⊥ = omega arith in z) }
 
-    held-rows : HoldsRows t (rows-of (reading this))
+    held-rows : HoldsRows (x .draft) (rows-of (reading this))
     unfolding state-after rows-read
     held-rows =
-        let y : HoldsRows t (rows-read (written s n f)) = x .acts .rows (low-so (written s n f) (seen .is)) [] refl (nothing row-width (x .t₀)) in
+        let y : HoldsRows (x .draft) (rows-read (written s n f)) = x .acts .rows (low-so (written s n f) (seen .is)) [] refl (nothing row-width (x .t₀)) in
         turn (written s n f) y
       where
         low-so : (o : Reply Rows) → o ≡ ok (seen .v) (seen .q) (seen .w) → state-after o .peak ≤ l
         low-so o i = subst (λ (y : Reply Rows). state-after y .peak ≤ l) (sym i) (seen .low)
 
-        turn : (o : Reply Rows) → HoldsRows t (rows-read o) → HoldsRows t (rows-of o)
+        turn : (o : Reply Rows) → HoldsRows (x .draft) (rows-read o) → HoldsRows (x .draft) (rows-of o)
         turn (ok v p w) y = y
         turn (err w) y = y
 
-    held-log : Logged (tables t e q) (log (state-of (reading this)))
+    held-log : Logged (tables (x .draft) e q) (log (state-of (reading this)))
     unfolding state-after
     held-log =
-        let y : Logged (tables t e q) (log (state-after (written s n f))) =
+        let y : Logged (tables (x .draft) e q) (log (state-after (written s n f))) =
         x .acts .logged (low-so (written s n f) (seen .is)) (record { errors = nothing error-width (x .e₀); requests = nothing request-width (x .q₀) }) in
         turn (written s n f) y
       where
         low-so : (o : Reply Rows) → o ≡ ok (seen .v) (seen .q) (seen .w) → state-after o .peak ≤ l
         low-so o i = subst (λ (y : Reply Rows). state-after y .peak ≤ l) (sym i) (seen .low)
 
-        turn : (o : Reply Rows) → Logged (tables t e q) (log (state-after o)) → Logged (tables t e q) (log (state-of o))
+        turn : (o : Reply Rows) → Logged (tables (x .draft) e q) (log (state-after o)) → Logged (tables (x .draft) e q) (log (state-of o))
         turn (ok v p w) y = y
         turn (err w) y = y
 
-    -- the lines of the rows, and zeros behind the last record of each kind
-    pub read-meets : d .count .0 ≤ room row-width t → st .errors ≤ room error-width e → st .requests ≤ room request-width q → {u t′ e′ q′ : List ℕ}
-        → u ≡ lined s t (d .count .0)
-        → t′ ≡ take (d .count .0 * row-width) u ++ zeros (length u - d .count .0 * row-width)
+    -- zeros behind the last record of each kind
+    pub read-meets : d .count .0 ≤ room row-width t → st .errors ≤ room error-width e → st .requests ≤ room request-width q → {t′ e′ q′ : List ℕ}
+        → t′ ≡ take (d .count .0 * row-width) t ++ zeros (length t - d .count .0 * row-width)
         → e′ ≡ take (st .errors * error-width) e ++ zeros (length e - st .errors * error-width)
         → q′ ≡ take (st .requests * request-width) q ++ zeros (length q - st .requests * request-width)
         → Meets this t′ e′ q′ (Read (record { rows = d .count .0; errors = st .errors; requests = st .requests; scope = st .scope; swallow = st .swallow }))
     unfolding outcome needs
-    read-meets i j k {u} o a b c =
+    read-meets i j k a b c =
         let z : refusal this ≡ none = fits-none this readable enough in
         let k₁ = kept-is rows in
         let k₂ = kept-is errors in
         let k₃ = kept-is requests in
         let w₁ : st .scope ≡ state-of (reading this) .scope = ap (λ (y : Kept). y .scope) (sym (seen .state)) ∙ ap (λ (o : Reply Rows). state-of o .scope) (sym (seen .is)) in
         let w₂ : st .swallow ≡ state-of (reading this) .swallow = ap (λ (y : Kept). y .swallow) (sym (seen .state)) ∙ ap (λ (o : Reply Rows). state-of o .swallow) (sym (seen .is)) in
-        let whole : Holds row-width u (row-words s (rows-of (reading this))) =
-        subst (λ (x : List ℕ). Holds row-width x (row-words s (rows-of (reading this)))) (sym o) (holds-lined s t (rows-of (reading this)) (d .count .0) k₁ i held-rows) in
-        let t₁ = a ∙ filled-so rows u (ap length o ∙ lined-length s t (d .count .0)) i whole in
-        let t₂ = b ∙ filled-so errors e refl j (held-log .errors) in
-        let t₃ = c ∙ filled-so requests q refl k (held-log .requests) in
+        let o : t ≡ lined s (x .draft) (d .count .0) = x .lines d st h in
+        let u : d .count .0 ≤ room row-width (x .draft) = omega (arith, i, ap (λ (y : List ℕ). room row-width y) o, ap (_/ row-width) (lined-length s (x .draft) (d .count .0))) in
+        let whole : Holds row-width t (row-words s (rows-of (reading this))) =
+        subst (λ (y : List ℕ). Holds row-width y (row-words s (rows-of (reading this)))) (sym o) (holds-lined s (x .draft) (rows-of (reading this)) (d .count .0) k₁ u held-rows) in
+        let t₁ = a ∙ filled-so rows i whole in
+        let t₂ = b ∙ filled-so errors j (held-log .errors) in
+        let t₃ = c ∙ filled-so requests k (held-log .requests) in
         record { outcome-is = same-outcome k₁ k₂ k₃ w₁ w₂ t₁ t₂ t₃ ∙ sym (ap (settled this) z) }
       where
-        filled-so : (y : Kind) (x : List ℕ) → length x ≡ length (lent y this) → kept-of y ≤ room (width y) (lent y this) → Holds (width y) x (words y this)
-            → take (kept-of y * width y) x ++ zeros (length x - kept-of y * width y) ≡ filled (words y this) (lent y this)
-        filled-so y x h g v =
+        filled-so : (y : Kind) → kept-of y ≤ room (width y) (lent y this) → Holds (width y) (lent y this) (words y this)
+            → take (kept-of y * width y) (lent y this) ++ zeros (length (lent y this) - kept-of y * width y) ≡ filled (words y this) (lent y this)
+        filled-so y g v =
             let o : kept-of y * width y ≡ length (words y this) = ap (λ (m : ℕ). m * width y) (kept-is y) ∙ sym (words-are y this) in
-            let r : room (width y) x ≡ room (width y) (lent y this) = ap (λ (m : ℕ). m / width y) h in
-            holds-filled (width y) x (words y this) (kept-of y * width y) v (omega (arith, mul-le-mul-right (width y) g, o, ap (_* width y) r)) o
-            ∙ filled-same (words y this) x (lent y this) h
+            holds-filled (width y) (lent y this) (words y this) (kept-of y * width y) v (omega (arith, mul-le-mul-right (width y) g, o)) o
 
         enough : (y : Kind) → Enough y this
         enough rows = omega (arith, kept-is rows)
@@ -256,7 +256,7 @@ module _ (s : List ℕ) (n : ℕ) (f : Bool) (l : ℕ) (t e q : List ℕ) where
 -- What the reader of a source file has done, from the start ----------------------------------------------------
 
 pub does-so : (s : List ℕ) (n : ℕ) (f : Bool) (l : ℕ) {r : Done} (t₀ e₀ q₀ t e q : List ℕ) → length s ≤ max-text → none ≡ first-high 0 s → n ≤ max-scope → l ≤ max-level
-    → Does source-file s (cursor 0 0 false) (record { scope = n; swallow = f; errors = 0; requests = 0 }) l (tables t₀ e₀ q₀) (tables t e q) r → Read-so s n f l r t e q
+    → Lined source-file s (cursor 0 0 false) (record { scope = n; swallow = f; errors = 0; requests = 0 }) l (tables t₀ e₀ q₀) (tables t e q) r → Read-so s n f l r t e q
 unfolding written rules
 does-so s n f l {r} t₀ e₀ q₀ t e q a b c d x =
     record {
@@ -267,7 +267,10 @@ does-so s n f l {r} t₀ e₀ q₀ t e q a b c d x =
       t₀ = t₀;
       e₀ = e₀;
       q₀ = q₀;
-      acts = subst (λ (m : ℕ). Acts (written s n f) m 0 [] (log (start n f)) (tables t₀ e₀ q₀) (tables t e q) r) (zero-add l) (x .acting 0 .doing .acts (start n f) refl (omega arith));
+      draft = x .draft;
+      lines = x .lines;
+      acts = subst (λ (m : ℕ). Acts (written s n f) m 0 [] (log (start n f)) (tables t₀ e₀ q₀) (tables (x .draft) e q) r) (zero-add l)
+          (x .does .acting 0 .doing .acts (start n f) refl (omega arith));
     }
 
 -- an outcome for the tables as they were lent

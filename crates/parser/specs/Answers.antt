@@ -8,8 +8,12 @@ use lib.ListN.{length}
 use Rattle.reading.specs.Reading.{written, start}
 use Rattle.reading.specs.Table.{Answer as Answered, answered, refused, first-high, filled, max-text, max-scope, max-level}
 use Rattle.reading.specs.Outcome.{Call, Counts, Outcome, outcome}
+use Rattle.line.specs.Lines.{lined}
+use Rattle.cursor.specs.declared.Cursor.{Cursor}
 use Rattle.state.specs.Acts.{tables, log, Acts}
+use Rattle.state.specs.declared.State.{State as Kept}
 use Rattle.state.specs.declared.Done.{Done}
+use Rattle.state.specs.declared.Done.the-variants.{Got}
 use Rattle.parser.specs.declared.Answer.{Answer}
 use Rattle.parser.specs.declared.Answer.the-variants.{Read, TooLong, HighByte, ScopeTooLarge, LevelTooLarge, TooDeep, NoRoomForRows, NoRoomForErrors, NoRoomForRequests}
 
@@ -59,7 +63,7 @@ pub record Cleared (t e q t′ e′ q′ : List ℕ) : Type 0 where
   pub errors : e′ ≡ filled [] e
   pub requests : q′ ≡ filled [] q
 
--- nothing of 1 to 4 is refused, and this is what reading came to, with these tables
+-- nothing of 1 to 4 is refused, and this is what reading came to, with these tables: the row table is a draft with the lines of its rows
 pub record Read-so (s : List ℕ) (n : ℕ) (f : Bool) (l : ℕ) (r : Done) (t e q : List ℕ) : Type 0 where
   pub short : length s ≤ max-text
   pub plain : first-high 0 s ≡ none
@@ -68,4 +72,6 @@ pub record Read-so (s : List ℕ) (n : ℕ) (f : Bool) (l : ℕ) (r : Done) (t e
   pub t₀ : List ℕ
   pub e₀ : List ℕ
   pub q₀ : List ℕ
-  pub acts : Acts (written s n f) l 0 [] (log (start n f)) (tables t₀ e₀ q₀) (tables t e q) r
+  pub draft : List ℕ
+  pub lines : (d : Cursor) (x : Kept) → r ≡ Got d x → t ≡ lined s draft (d .count .0)
+  pub acts : Acts (written s n f) l 0 [] (log (start n f)) (tables t₀ e₀ q₀) (tables draft e q) r

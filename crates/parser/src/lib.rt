@@ -40,7 +40,7 @@ fn clear(rows: &mut [u32], errors: &mut [u32], requests: &mut [u32])
     table::zero(requests, 0);
 }
 
-// Behind the reading: too deep, too little room, or the lines of the rows, and zeros behind the last records.
+// Behind the reading: too deep, too little room, or zeros behind the last records.
 fn settle(
     text: &[u8],
     scope: usize,
@@ -73,7 +73,6 @@ fn settle(
         clear(rows, errors, requests);
         return Answer::NoRoomForRequests(q);
     }
-    line::number(text, rows, n);
     table::zero(rows, n * table::ROW);
     table::zero(errors, e * table::ERROR);
     table::zero(requests, q * table::REQUEST);

@@ -6,3 +6,4 @@ pub mod Parts
 pub mod Chains
 pub mod Quiets
 pub mod Files
+pub mod Drafts

@@ -1,7 +1,8 @@
 -- What antt computes of the rules that statements are made of: that they are quiet, move, and that their bytes pay for what they do.
 use mathlib.Core.Bool.{false}
 use mathlib.Core.List.{List}
-use Prim.Native.Nat.{ℕ}
+use Prim.Native.Nat.{ℕ, _≤_}
+use native.Mathlib.Omega.{arith}
 use lib.Dec.{T as Passes}
 use Rattle.reading.specs.Kind.{errorᵏ}
 use Rattle.reading.specs.Grammar.{run1, Parser, _▸_, _or_, many0, leaf, expect}
@@ -9,6 +10,7 @@ use Rattle.reading.specs.Rules.{opt, mws, directive, block, block-item, braces,
 use Rattle.reading.specs.Rules.{instruction, variable-definition, const-definition, pc-definition, config-definition, macro-invocation, data′, segment, loop′, if′, align, text, file, test, assert, trace}
 use Rattle.reading.proofs.Tests.{quiet}
 use Rattle.reading.proofs.Moves.{moves}
+use Rattle.reading.proofs.Cost.{cost}
 use Rattle.trivia.specs.Class.{among}
 use Rattle.state.proofs.Bounds.{sober, settled}
 use Rattle.statement.specs.declared.Body.{Body}
@@ -48,6 +50,14 @@ mark-moves b = tt
 pub eof-quiet : Passes (quiet eof)
 unfolding all-rules
 eof-quiet = tt
+
+pub eof-sober : Passes (sober eof)
+unfolding all-rules
+eof-sober = tt
+
+pub eof-debt : cost eof .debt ≤ 4
+unfolding all-rules
+eof-debt = omega arith
 
 -- Blocks -------------------------------------------------------------------
 

@@ -21,7 +21,7 @@ pushed w t n ws = cond (ltb n (room w t)) (put t (n * w) ws) t
 unfoldable pub replaced : List ℕ → ℕ → ℕ → ℕ → ℕ → List ℕ
 replaced t n a b z = cond (ltb n (room row-width t)) (put t (n * row-width + tlow-column) (a ∷ b ∷ z ∷ [])) t
 
--- the words of a record, in the order of its columns. A row's line is zero until all rows stand: crate line fills it in
+-- the words of a record, in the order of its columns. A row's line is zero until crate line fills it in
 abbrev pub row-record : ℕ → ℕ → ℕ → ℕ → ℕ → ℕ → List ℕ
 row-record k s t a z d = k ∷ s ∷ t ∷ a ∷ z ∷ d ∷ 0 ∷ []
 

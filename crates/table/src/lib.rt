@@ -27,8 +27,8 @@ pub const ERROR: usize = 3;
 
 pub const REQUEST: usize = 2;
 
-// A row with this number, if the table has room for it. Its line is filled in when all rows stand. The room is not worked out: a division by the
-// width takes longer than the stores.
+// A row with this number, if the table has room for it. Its line is filled in later. The room is not worked out: a division by the width takes
+// longer than the stores.
 pub fn push_row(
     rows: &mut [u32],
     n: RowIndex,
@@ -39,14 +39,10 @@ pub fn push_row(
     high: Pos,
     detail: usize,
 )
-    requires { ⌜ (kind < 2 ^ 32) × (size < 2 ^ 32) × (tlow .0 < 2 ^ 32) × (low .0 < 2 ^ 32) × (high .0 < 2 ^ 32) × (detail < 2 ^ 32) ⌝ }
+    requires { ⌜ (n .0 < 2 ^ 32) × (kind < 2 ^ 32) × (size < 2 ^ 32) × (tlow .0 < 2 ^ 32) × (low .0 < 2 ^ 32) × (high .0 < 2 ^ 32) × (detail < 2 ^ 32) ⌝ }
     ensures { λ _. ⌜ now (rows .exit) ≡ pushed row-width (now (rows .entry)) (n .0) (row-record kind size (tlow .0) (low .0) (high .0) detail) ⌝ }
 {
-    let n = n.0;
-    if rows.len() <= n {
-        return;
-    }
-    let i = n * ROW;
+    let i = n.0 * ROW;
     if i + ROW <= rows.len() {
         rows[i] = kind as u32;
         rows[i + column::SIZE] = size as u32;

@@ -1028,6 +1028,21 @@ expression-push-row-requires t c κs =
     let u = (c .before .before .before .before .before .before .before .before .loop .inv) in
     let st = chain-step expression-chain u (c .before .before .before .before .before .before .next-term .ensures) (c .before .before .g .given .0 .0) (c .before
     .before .g .given .1) in (
+      omega (
+        arith,
+        st .within,
+        st .on,
+        st .grown,
+        st .rows,
+        u .grown,
+        u .progress .rows,
+        u .progress .within,
+        s1 .rows,
+        s1 .within,
+        r .0 .few,
+        r .0 .small,
+        r .1 .within,
+      ),
       omega arith,
       omega (
         arith,
@@ -1893,6 +1908,21 @@ expression-term-push-row-requires t c κs =
     let u = (c .before .before .before .before .before .before .before .before .loop .inv) in
     let st = chain-step term-chain u (c .before .before .before .before .before .before .next-factor .ensures) (c .before .before .g .given .0 .0) (c .before .before .g
     .given .1) in (
+      omega (
+        arith,
+        st .within,
+        st .on,
+        st .grown,
+        st .rows,
+        u .grown,
+        u .progress .rows,
+        u .progress .within,
+        s1 .rows,
+        s1 .within,
+        r .0 .few,
+        r .0 .small,
+        r .1 .within,
+      ),
       omega arith,
       omega (
         arith,

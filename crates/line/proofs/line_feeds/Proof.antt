@@ -4,8 +4,9 @@ use mathlib.Core.Logic.{_⊎_, inl, inr}
 use Prim.Native.Nat.{_+_, _-_, _≤_}
 use native.Mathlib.Omega.{arith}
 use lib.ListN.{length}
+use borrow.Author.Needs.{needs}
 use Rattle.reading.specs.Table.{line}
-use Rattle.line.proofs.Lines.{line-over, line-on, line-bound, line-reached}
+use Rattle.line.proofs.Lines.{line-bound, line-reached}
 use Rattle.line.proofs.line_feeds.Statement.{statement}
 use Rattle.line.proofs.line_feeds.Tie as tie
 
@@ -16,22 +17,28 @@ abbrev μ-loop : tie.MeasureT-loop
 μ-loop text from to end n₀ i₀ n i = end - i
 
 loop-holds : tie.Need-loop-holds Inv-loop μ-loop
-loop-holds c = elim (c .if1 .came) [ inl x ↦ (let e : c .if1 .end ≡ length (c .before .args .text .now) = x .1 in (c .before .pre .1, omega (arith, e, x .0 .taken), omega (arith, e), inl (omega (arith, e)), omega arith)) | inr x ↦ (let e : c .if1 .end ≡ c .before .args .to = x .1 in (c .before .pre .1, omega (arith, e), omega (arith, e, x .0 .left), inr (omega (arith, e)), omega arith)) ]
+loop-holds c = elim (c .if1 .came) [ inl x ↦ (let e : c .if1 .end ≡ length (c .before .before .args .text .now) = x .1 in (c .before .before .pre .1, omega (arith, e, x .0 .taken), omega (arith, e), inl (omega (arith, e)), omega arith)) | inr x ↦ (let e : c .if1 .end ≡ c .before .before .args .to = x .1 in (c .before .before .pre .1, omega (arith, e), omega (arith, e, x .0 .left), inr (omega (arith, e)), omega arith)) ]
 
-shared-slice-read-if2 : tie.Need-shared-slice-read-if2 Inv-loop μ-loop
-shared-slice-read-if2 c = omega (arith, c .before .loop-test .taken, c .before .before .loop .inv .2)
+sub-if2 : tie.Need-sub-if2 Inv-loop μ-loop
+sub-if2 c = omega (arith, c .before .loop-test .taken)
+
+add-stop : tie.Need-add-stop Inv-loop μ-loop
+add-stop c = omega (arith, c .if2 .left, c .before .before .before .loop .inv .1, c .before .before .before .before .before .before .fits .to)
+
+feeds-near-requires : tie.Need-feeds-near-requires Inv-loop μ-loop
+feeds-near-requires c κs = elim (c .if2 .came) [ inl x ↦ (let e : c .if2 .stop ≡ c .before .before .before .before .if1 .end = x .1 in (omega (arith, e, c .before .before .loop-test .taken), omega (arith, e, x .0 .taken), omega (arith, e, c .before .before .before .loop .inv .2))) | inr x ↦ (let e : c .if2 .stop ≡ c .before .before .before .loop .i + 224 = x .1 in (omega (arith, e), omega (arith, e), omega (arith, e, x .0 .left, c .before .before .before .loop .inv .2))) ]
+
+cast-n : tie.Need-cast-n Inv-loop μ-loop
+cast-n c = search needs
 
 add-n : tie.Need-add-n Inv-loop μ-loop
-add-n c = omega (arith, line-bound (c .before .before .before .before .before .args .text .now) (c .before .before .before .loop .i), c .before .before .before .loop .inv .4, c .before .before .before .before .before .pre .0)
-
-add-i : tie.Need-add-i Inv-loop μ-loop
-add-i c = omega (arith, c .before .before .loop-test .taken, c .before .before .before .loop .inv .1, c .before .before .before .before .before .fits .to)
+add-n c = omega (arith, line-bound (c .before .before .before .before .before .before .before .args .text .now) (c .before .if2 .stop), c .feeds-near .ensures, c .before .before .before .before .loop .inv .4, c .before .before .before .before .before .before .before .pre .0)
 
 loop-less : tie.Need-loop-less Inv-loop μ-loop
-loop-less c = omega arith
+loop-less c = elim (c .before .if2 .came) [ inl x ↦ (let e : c .before .if2 .stop ≡ c .before .before .before .before .before .if1 .end = x .1 in omega (arith, e, c .before .before .before .loop-test .taken)) | inr x ↦ (let e : c .before .if2 .stop ≡ c .before .before .before .before .loop .i + 224 = x .1 in omega (arith, e, c .before .before .before .loop-test .taken)) ]
 
 loop-again : tie.Need-loop-again Inv-loop μ-loop
-loop-again c = (omega (arith, c .before .before .loop-test .taken, c .before .before .before .loop .inv .1), c .before .before .before .loop .inv .1, c .before .before .before .loop .inv .2, c .before .before .before .loop .inv .3, elim (c .if2 .came) [ inl x ↦ (let e : c .if2 .n ≡ c .before .before .before .loop .n + 1 = x .1 in omega (arith, e, line-over (c .before .before .before .before .before .args .text .now) (c .before .before .before .loop .i) (x .0 .taken), c .before .before .before .loop .inv .4)) | inr x ↦ (let e : c .if2 .n ≡ c .before .before .before .loop .n = x .1 in omega (arith, e, line-on (c .before .before .before .before .before .args .text .now) (c .before .before .before .loop .i) (x .0 .left), c .before .before .before .loop .inv .4)) ])
+loop-again c = (elim (c .before .if2 .came) [ inl x ↦ (let e : c .before .if2 .stop ≡ c .before .before .before .before .before .if1 .end = x .1 in omega (arith, e, c .before .before .before .before .loop .inv .1)) | inr x ↦ (let e : c .before .if2 .stop ≡ c .before .before .before .before .loop .i + 224 = x .1 in omega (arith, e, x .0 .left, c .before .before .before .before .loop .inv .1)) ], c .before .before .before .before .loop .inv .1, c .before .before .before .before .loop .inv .2, c .before .before .before .before .loop .inv .3, omega (arith, c .feeds-near .ensures, c .before .before .before .before .loop .inv .4))
 
 returns : tie.Need-returns Inv-loop μ-loop
 returns c = c .before .loop .inv .4 ∙ sym (line-reached _ _ _ _ (c .before .loop .inv .3) (c .loop-test .left) (c .before .loop .inv .0))
@@ -43,9 +50,11 @@ line-feeds-spec =
     Inv-loop
     μ-loop
     loop-holds
-    shared-slice-read-if2
+    sub-if2
+    add-stop
+    feeds-near-requires
+    cast-n
     add-n
-    add-i
     loop-less
     loop-again
     returns)

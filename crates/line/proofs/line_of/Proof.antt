@@ -43,7 +43,7 @@ shared-slice-read-t20 : tie.Need-shared-slice-read-t20
 shared-slice-read-t20 c = search needs
 
 line-from-requires : tie.Need-line-from-requires
-line-from-requires c κs = (c .before .before .before .before .before .before .pre .0, elim (c .if2 .came) [ inl x ↦ (ap (λ (m : Mark). m .line) (x .3) ∙ c .before .before .before .before .before .before .pre .3 .each (c .before .near .result) (x .0 .taken) ∙ sym (ap (λ (m : Mark). line (c .before .before .before .before .before .before .args .text .now) (m .at)) (x .3))) | inr x ↦ (ap (λ (m : Mark). m .line) (x .1) ∙ sym (c .before .before .before .before .before .before .pre .1 .line _ (omega arith) (c .before .before .before .before .before .before .pre .1 .ordered)) ∙ sym (ap (λ (m : Mark). line (c .before .before .before .before .before .before .args .text .now) (m .at)) (x .1))) ])
+line-from-requires c κs = (c .before .before .before .before .before .before .pre .0, elim (c .if2 .came) [ inl x ↦ (ap (λ (m : Mark). m .line) (x .3) ∙ c .before .before .before .before .before .before .pre .3 .each (c .before .near .result) (x .0 .taken) (omega (arith, x .0 .taken, c .before .before .before .before .before .before .pre .4)) ∙ sym (ap (λ (m : Mark). line (c .before .before .before .before .before .before .args .text .now) (m .at)) (x .3))) | inr x ↦ (ap (λ (m : Mark). m .line) (x .1) ∙ sym (c .before .before .before .before .before .before .pre .1 .line _ (omega arith) (c .before .before .before .before .before .before .pre .1 .ordered)) ∙ sym (ap (λ (m : Mark). line (c .before .before .before .before .before .before .args .text .now) (m .at)) (x .1))) ])
 
 returns-2 : tie.Need-returns-2
 returns-2 c = search needs

@@ -1,69 +1,99 @@
-use Rattle.statement.proofs.Files.{start-fit, file-out, file-fit, file-got}
-use Rattle.state.proofs.Agree.{not-got}
+-- The invariant: the table is that of a reading that fills in no line, with the lines of the rows so far, and the stretch has its line.
+use Prim.Native.Nat.{_-_}
+use native.Mathlib.Omega.{arith}
 use mathlib.Core.Path.{_∙_}
+use lib.ListN.{length}
 use borrow.Author.Needs.{needs}
+use Rattle.line.specs.Marks.{On}
+use Rattle.state.specs.Acts.{tables}
+use Rattle.statement.proofs.Files.{start-fit, Filling, filling-none, filling-rows, filling-numbered, filling-less, filling-few, filling-more, filling-fit, filling-end, filling-deep}
 use Rattle.statement.proofs.source_file.Statement.{statement}
 use Rattle.statement.proofs.source_file.Tie as tie
-use Rattle.statement.proofs.source_file.Reads as reads
-use Rattle.statement.proofs.source_file.Lts as lts
-use Rattle.statement.proofs.text.eof.Reads as eof-reads
-use Rattle.statement.proofs.tokens.Reads as tokens-reads
 
--- src/lib.rt:99:9
-tokens-requires : tie.Need-tokens-requires
-tokens-requires c κs = start-fit (c .before .before .before .before .before .before .before .pre)
+abbrev Inv-loop : tie.InvT-loop
+Inv-loop s left rows₀ errors₀ requests₀ at₀ count₀ state₀ here₀ rows errors requests at count state here = On s here × Filling s left state₀ (tables rows₀ errors₀ requests₀) at count state (tables rows errors requests)
 
--- src/lib.rt:100:19
-enum-known-r : tie.Need-enum-known-r
-enum-known-r c = search needs
+abbrev μ-loop : tie.MeasureT-loop
+μ-loop s left rows₀ errors₀ requests₀ at₀ count₀ state₀ here₀ rows errors requests at count state here = length s - at
 
--- src/lib.rt:101:9
-same-length : tie.Need-same-length
-same-length c = c .before .before .before .before .before .before .before .tokens .kept .1 .1 .1 .0
+start-requires : tie.Need-start-requires Inv-loop μ-loop
+start-requires c κs = search needs
 
--- src/lib.rt:101:9
-same-length-2 : tie.Need-same-length-2
-same-length-2 c = c .before .before .before .before .before .before .before .tokens .kept .1 .1 .1 .1 .0
+loop-holds : tie.Need-loop-holds Inv-loop μ-loop
+loop-holds c = (c .start .ensures, filling-none _ _ (start-fit (c .before .before .before .before .before .pre)))
 
--- src/lib.rt:101:9
-same-length-3 : tie.Need-same-length-3
-same-length-3 c = c .before .before .before .before .before .before .before .tokens .kept .1 .1 .1 .1 .1 .0
+token-behind-requires : tie.Need-token-behind-requires Inv-loop μ-loop
+token-behind-requires c κs = (c .before .before .before .loop .inv .1) .walking .fit
 
--- src/lib.rt:101:9
-returns : tie.Need-returns
-returns c = file-out (c .before .before .before .before .before .before .before .tokens .ensures) (not-got _ (c .match .keys2))
+enum-known-f : tie.Need-enum-known-f Inv-loop μ-loop
+enum-known-f c = search needs
 
--- src/lib.rt:103:5
-eof-requires : tie.Need-eof-requires
-eof-requires c κs = file-fit (c .before .before .before .before .before .before .before .before .before .before .before .tokens .ensures) (start-fit (c .before .before .before .before .before .before .before .before .before .before .before .before .before .before .before .before .before .before .before .pre)) (c .before .before .before .r .given .0 .0) (c .before .before .before .r .given .0 .1 .0) (c .before .before .before .r .given .1)
+add-n : tie.Need-add-n Inv-loop μ-loop
+add-n c = omega (arith, filling-few (c .before .before .before .before .before .before .before .before .before .before .before .before .before .before .loop .inv .1) (c .before .before .before .before .before .before .before .before .before .before .token-behind .ensures) (c .before .before .f .given .0 .0) (c .before .before .f .given .0 .1 .0) (c .before .before .f .given .1) (c .before .before .before .before .before .before .before .before .before .before .token-behind .kept .1 .1 .1 .1 .1 .0) (c .before .before .before .before .before .before .before .before .before .before .token-behind .kept .1 .1 .1 .1 .1 .1 .0) (c .before .before .before .before .before .before .before .before .before .before .token-behind .kept .1 .1 .1 .1 .1 .1 .1 .0))
 
--- src/lib.rt:95:1
-same-length-4 : tie.Need-same-length-4
-same-length-4 c = c .before .before .before .before .eof .kept .1 .1 .1 .0 ∙ c .before .before .before .before .before .before .before .before .before .before .before .before .before .before .before .before .tokens .kept .1 .1 .1 .0
+number-requires : tie.Need-number-requires Inv-loop μ-loop
+number-requires c κs = (c .before .before .before .before .before .before .before .before .before .before .before .before .before .before .before .before .before .before .before .before .before .pre .0, c .before .before .before .before .before .before .before .before .before .before .before .before .before .before .before .loop .inv .0, omega arith, filling-numbered (c .before .before .before .before .before .before .before .before .before .before .before .before .before .before .before .loop .inv .1) (c .before .before .before .before .before .before .before .before .before .before .before .token-behind .ensures))
 
--- src/lib.rt:95:1
-same-length-5 : tie.Need-same-length-5
-same-length-5 c = c .before .before .before .before .eof .kept .1 .1 .1 .1 .0 ∙ c .before .before .before .before .before .before .before .before .before .before .before .before .before .before .before .before .tokens .kept .1 .1 .1 .1 .0
+loop-less : tie.Need-loop-less Inv-loop μ-loop
+loop-less c = let w = filling-less (c .before .before .before .before .before .before .before .before .before .before .before .before .before .before .before .before .before .before .loop .inv .1) (c .before .before .before .before .before .before .before .before .before .before .before .before .before .before .token-behind .ensures) (c .before .before .before .before .before .before .f .given .0 .0) (c .before .before .before .before .before .before .f .given .0 .1 .0) (c .before .before .before .before .before .before .f .given .1) in omega (arith, w .0, w .1)
 
--- src/lib.rt:95:1
-same-length-6 : tie.Need-same-length-6
-same-length-6 c = c .before .before .before .before .before .before .before .before .before .before .before .before .before .before .before .before .tokens .kept .1 .1 .1 .1 .1 .0
+loop-again : tie.Need-loop-again Inv-loop μ-loop
+loop-again c = (c .before .before .number .ensures .0, filling-more (c .before .before .before .before .before .before .before .before .before .before .before .before .before .before .before .before .before .before .loop .inv .1) (c .before .before .before .before .before .before .before .before .before .before .before .before .before .before .token-behind .ensures) (c .before .before .before .before .before .before .f .given .0 .0) (c .before .before .before .before .before .before .f .given .0 .1 .0) (c .before .before .before .before .before .before .f .given .1) (c .before .before .before .before .before .before .before .before .before .before .before .before .before .before .token-behind .kept .1 .1 .1 .1 .1 .0) (c .before .before .before .before .before .before .before .before .before .before .before .before .before .before .token-behind .kept .1 .1 .1 .1 .1 .1 .0) (c .before .before .before .before .before .before .before .before .before .before .before .before .before .before .token-behind .kept .1 .1 .1 .1 .1 .1 .1 .0) (c .before .before .number .ensures .1))
 
--- src/lib.rt:95:1
-returns-2 : tie.Need-returns-2
-returns-2 c = file-got (c .before .before .before .before .before .before .before .before .before .before .before .before .before .before .before .before .tokens .ensures) (c .before .before .before .before .before .before .before .before .r .given .0 .0) (c .before .before .before .before .before .before .before .before .r .given .0 .1 .0) (c .before .before .before .before .before .before .before .before .r .given .1) (c .before .before .before .before .eof .ensures)
+enum-known-f-2 : tie.Need-enum-known-f-2 Inv-loop μ-loop
+enum-known-f-2 c = search needs
+
+end-requires : tie.Need-end-requires Inv-loop μ-loop
+end-requires c κs = (filling-fit (c .before .before .before .before .before .before .before .before .before .before .before .before .before .before .before .loop .inv .1) (c .before .before .before .before .before .before .before .before .before .before .before .token-behind .ensures) (c .before .before .before .f2 .given .0 .0) (c .before .before .before .f2 .given .1) (start-fit (c .before .before .before .before .before .before .before .before .before .before .before .before .before .before .before .before .before .before .before .before .before .pre)), (c .before .before .before .before .before .before .before .before .before .before .before .before .before .before .before .loop .inv .0, filling-numbered (c .before .before .before .before .before .before .before .before .before .before .before .before .before .before .before .loop .inv .1) (c .before .before .before .before .before .before .before .before .before .before .before .token-behind .ensures)))
+
+same-length : tie.Need-same-length Inv-loop μ-loop
+same-length c = c .before .before .before .before .end .kept .1 .1 .1 .1 .1 .0 ∙ c .before .before .before .before .before .before .before .before .before .before .before .before .before .before .before .before .token-behind .kept .1 .1 .1 .1 .1 .0 ∙ filling-rows (c .before .before .before .before .before .before .before .before .before .before .before .before .before .before .before .before .before .before .before .before .loop .inv .1)
+
+same-length-2 : tie.Need-same-length-2 Inv-loop μ-loop
+same-length-2 c = c .before .before .before .before .end .kept .1 .1 .1 .1 .1 .1 .0 ∙ c .before .before .before .before .before .before .before .before .before .before .before .before .before .before .before .before .token-behind .kept .1 .1 .1 .1 .1 .1 .0 ∙ (c .before .before .before .before .before .before .before .before .before .before .before .before .before .before .before .before .before .before .before .before .loop .inv .1) .walking .errors-length
+
+same-length-3 : tie.Need-same-length-3 Inv-loop μ-loop
+same-length-3 c = c .before .before .before .before .before .before .before .before .before .before .before .before .before .before .before .before .token-behind .kept .1 .1 .1 .1 .1 .1 .1 .0 ∙ (c .before .before .before .before .before .before .before .before .before .before .before .before .before .before .before .before .before .before .before .before .loop .inv .1) .walking .requests-length
+
+returns : tie.Need-returns Inv-loop μ-loop
+returns c = filling-end (c .before .before .before .before .before .before .before .before .before .before .before .before .before .before .before .before .before .before .before .before .loop .inv .1) (c .before .before .before .before .before .before .before .before .before .before .before .before .before .before .before .before .token-behind .ensures) (c .before .before .before .before .before .before .before .before .f2 .given .0 .0) (c .before .before .before .before .before .before .before .before .f2 .given .1) (c .before .before .before .before .end .ensures)
+
+enum-told : tie.Need-enum-told Inv-loop μ-loop
+enum-told c = search needs
+
+same-length-4 : tie.Need-same-length-4 Inv-loop μ-loop
+same-length-4 c = c .before .before .before .before .before .before .before .before .token-behind .kept .1 .1 .1 .1 .1 .0 ∙ filling-rows (c .before .before .before .before .before .before .before .before .before .before .before .before .loop .inv .1)
+
+same-length-5 : tie.Need-same-length-5 Inv-loop μ-loop
+same-length-5 c = c .before .before .before .before .before .before .before .before .token-behind .kept .1 .1 .1 .1 .1 .1 .0 ∙ (c .before .before .before .before .before .before .before .before .before .before .before .before .loop .inv .1) .walking .errors-length
+
+same-length-6 : tie.Need-same-length-6 Inv-loop μ-loop
+same-length-6 c = c .before .before .before .before .before .before .before .before .token-behind .kept .1 .1 .1 .1 .1 .1 .1 .0 ∙ (c .before .before .before .before .before .before .before .before .before .before .before .before .loop .inv .1) .walking .requests-length
+
+returns-2 : tie.Need-returns-2 Inv-loop μ-loop
+returns-2 c = filling-deep (c .before .before .before .before .before .before .before .before .before .before .before .before .loop .inv .1) (c .before .before .before .before .before .before .before .before .token-behind .ensures) (c .enum-told .given .1)
 
 pub source-file-spec : {M : Type 1} → statement M
 source-file-spec =
     tie.close
     (tie.spec
-    tokens-requires
-    enum-known-r
+    Inv-loop
+    μ-loop
+    start-requires
+    loop-holds
+    token-behind-requires
+    enum-known-f
+    add-n
+    number-requires
+    loop-less
+    loop-again
+    enum-known-f-2
+    end-requires
     same-length
     same-length-2
     same-length-3
     returns
-    eof-requires
+    enum-told
     same-length-4
     same-length-5
     same-length-6

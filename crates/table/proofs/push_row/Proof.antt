@@ -11,24 +11,17 @@ use Rattle.table.proofs.push_row.Statement.{statement}
 use Rattle.table.proofs.push_row.Tie as tie
 
 -- the code's tests, and the definition's, which divides
-outside : {m n : ℕ} → m ≤ n → m / row-width ≤ n
-outside h = omega (arith, h)
-
 behind : {m n : ℕ} → m < n * row-width + row-width → m / row-width ≤ n
 behind h = omega (arith, h)
 
 inside : {m n : ℕ} → n * row-width + row-width ≤ m → n < m / row-width
 inside h = omega (arith, h)
 
-returns : tie.Need-returns
-unfolding pushed
-returns c = simp (le-ltb _ _ (outside (c .if1 .taken)))
-
 mul-i : tie.Need-mul-i
 mul-i c = search needs
 
-add-if2 : tie.Need-add-if2
-add-if2 c = search needs
+add-if1 : tie.Need-add-if1
+add-if1 c = search needs
 
 cast-rows : tie.Need-cast-rows
 cast-rows c = search needs
@@ -111,21 +104,20 @@ slice-write-rows-7 c = simp length-set (omega arith)
 same-length : tie.Need-same-length
 same-length c = simp length-set
 
+returns : tie.Need-returns
+unfolding pushed
+returns c = simp (lt-ltb _ _ (inside (c .before .before .before .if1 .taken)), towards-suc)
+
 returns-2 : tie.Need-returns-2
 unfolding pushed
-returns-2 c = simp (lt-ltb _ _ (inside (c .before .before .before .if2 .taken)), towards-suc)
-
-returns-3 : tie.Need-returns-3
-unfolding pushed
-returns-3 c = simp (le-ltb _ _ (behind (c .if2 .left)))
+returns-2 c = simp (le-ltb _ _ (behind (c .if1 .left)))
 
 pub push-row-spec : {M : Type 1} → statement M
 push-row-spec =
     tie.close
     (tie.spec
-    returns
     mul-i
-    add-if2
+    add-if1
     cast-rows
     mul-rows
     slice-write-rows
@@ -153,5 +145,5 @@ push-row-spec =
     mul-rows-7
     slice-write-rows-7
     same-length
-    returns-2
-    returns-3)
+    returns
+    returns-2)

@@ -21,7 +21,7 @@ sub-push-row c =
 push-row-requires : tie.Need-push-row-requires
 push-row-requires c κs =
     let y = (c .before .before .before .before .before .before .before .pre .0) .spans _ (c .before .before .before .before .f .given .1) in
-    ((c .before .before .before .before .before .before .before .pre .1), omega (arith, y .few), y .tlow, y .low, y .high, omega arith)
+    (omega (arith, y .few), (c .before .before .before .before .before .before .before .pre .1), omega (arith, y .few), y .tlow, y .low, y .high, omega arith)
 
 add-t13 : tie.Need-add-t13
 add-t13 c =

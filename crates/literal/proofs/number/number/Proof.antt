@@ -46,6 +46,7 @@ push-row-requires c κs =
     let f = c .before .before .before .before .before .f .given in
     let h = pre .0 in
     let x = number-step (h .within) value′ _ (f .1) in (
+      omega (arith, h .small, h .few, x .within, x .grown, x .rows),
       omega arith,
       omega (arith, h .small, h .few, x .within, x .grown, x .rows),
       omega (arith, h .small, h .within),

@@ -118,6 +118,7 @@ push-row-requires c κs =
     let h = pre .0 in
     let x = string-inside interpolated (pre .1) char′ _ (f .1) items′ _ (g .1) h in
     let o = pre .1 .within in (
+      omega (arith, h .small, x .grown, x .within, x .few),
       omega arith,
       omega (arith, h .small, x .grown, x .within, x .few),
       omega (arith, h .small, h .within, o),
