@@ -10,18 +10,18 @@ use Rattle.number.specs.declared.Typed.TheVariants.{Known, Unknown}
 use Rattle.number.specs.declared.Valued.{Valued}
 use Rattle.number.specs.declared.Valued.TheVariants.{Is, NotANumber, TooLarge}
 
-abbrev pub base-of : NumberType → Base
-base-of Hex = hexadecimal
-base-of Dec = decimal
-base-of Bin = binary
+abbrev pub base_of : NumberType → Base
+base_of Hex = hexadecimal
+base_of Dec = decimal
+base_of Bin = binary
 
 -- the types as the details of rows of kind 49 have them
-unfoldable pub base-numbered : ℕ → Option Base
-base-numbered n = cond (eqb n 1) (some hexadecimal) (cond (eqb n 2) (some decimal) (cond (eqb n 3) (some binary) none))
+unfoldable pub base_numbered : ℕ → Option Base
+base_numbered n = cond (eqb n 1) (some hexadecimal) (cond (eqb n 2) (some decimal) (cond (eqb n 3) (some binary) none))
 
-abbrev pub base-told : Typed → Option Base
-base-told (Known t) = some (base-of t)
-base-told Unknown = none
+abbrev pub base_told : Typed → Option Base
+base_told (Known t) = some (base_of t)
+base_told Unknown = none
 
 abbrev pub told : Valued → Answer ℕ
 told (Is v) = answered v

@@ -60,7 +60,7 @@ pub record Cleared (t e q t' e' q' : List ℕ) : Type 0 where
   pub requests : q' ≡ filled [] q
 
 -- nothing of 1 to 4 is refused, and this is what reading came to, with these tables: the row table is a draft with the lines of its rows
-pub record Read-so (s : List ℕ) (n : ℕ) (f : Bool) (l : ℕ) (r : Done) (t e q : List ℕ) : Type 0 where
+pub record ReadSo (s : List ℕ) (n : ℕ) (f : Bool) (l : ℕ) (r : Done) (t e q : List ℕ) : Type 0 where
   pub short : length s ≤ max_text
   pub plain : first_high 0 s ≡ none
   pub scope : n ≤ max_scope

@@ -7,14 +7,14 @@ use Rattle.rows.specs.declared.Counted.TheVariants.{Tops, NoSubtree as no-subtre
 use Rattle.rows.specs.declared.TopsAnswer.{TopsAnswer}
 use Rattle.rows.specs.declared.TopsAnswer.TheVariants.{Count, NoSubtree, NoRoom}
 
-abbrev pub told-count : Counted → Answer ℕ
-told-count (Tops n) = answered n
-told-count (no-subtree n) = refused 13 n
+abbrev pub told_count : Counted → Answer ℕ
+told_count (Tops n) = answered n
+told_count (no-subtree n) = refused 13 n
 
-abbrev pub told-tops : TopsAnswer → Answer ℕ
-told-tops (Count n) = answered n
-told-tops (NoSubtree n) = refused 13 n
-told-tops (NoRoom n) = refused 6 n
+abbrev pub told_tops : TopsAnswer → Answer ℕ
+told_tops (Count n) = answered n
+told_tops (NoSubtree n) = refused 13 n
+told_tops (NoRoom n) = refused 6 n
 
 abbrev pub listed : Answer ℕ → List ℕ → Listed
 listed a t = record { answer = a; table = t }

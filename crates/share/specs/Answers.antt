@@ -9,12 +9,12 @@ use Rattle.share.specs.declared.SharesAnswer.TheVariants.{Found, TooManyTexts, W
 use Rattle.share.specs.declared.TextAnswer.{TextAnswer}
 use Rattle.share.specs.declared.TextAnswer.TheVariants.{Words as words, NoSubtree, NoRoom, WrongText as wrong-text}
 
-abbrev pub found-shares : SharesFound → Shares
-found-shares x =
+abbrev pub found_shares : SharesFound → Shares
+found_shares x =
     record { numerator = x.numerator; denominator = x.denominator; count = x.count; first = x.first; second = x.second; third = x.third }
 
 abbrev pub told : SharesAnswer → Answer Shares
-told (Found x) = answered (found-shares x)
+told (Found x) = answered (found_shares x)
 told (TooManyTexts n) = refused 27 n
 told (WrongText i) = refused 28 i
 
@@ -24,5 +24,5 @@ told_text (NoSubtree n) = refused 13 n
 told_text (NoRoom n) = refused 6 n
 told_text wrong-text = refused 28 0
 
-abbrev pub told-words : TextAnswer → List ℕ → Told
-told-words a t = record { answer = told_text a; table = t }
+abbrev pub told_words : TextAnswer → List ℕ → Told
+told_words a t = record { answer = told_text a; table = t }

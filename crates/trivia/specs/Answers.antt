@@ -21,9 +21,9 @@ told (NoRoom n) = refused 12 n
 abbrev pub listed : Answer ℕ → List ℕ → Listed
 listed a t = record { answer = a; table = t }
 
-abbrev pub high-of : High → Option ℕ
-high-of (At p) = some p.0
-high-of No = none
+abbrev pub high_of : High → Option ℕ
+high_of (At p) = some p.0
+high_of No = none
 
 -- the items of s are counted, and in the table t as far as it has room
 pub record Lists (s t : List ℕ) (r : Listing) : Type 0 where
