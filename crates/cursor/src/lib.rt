@@ -1,9 +1,11 @@
 // What a reader takes and answers. The relation between its answer and the written reading is in specs/, the laws that put such relations
 // together in proofs/.
+#![tactic(auto)]
+
 use table::{Pos, RowIndex};
 
 // A place in the text, how many rows there are so far, and whether an open comment was met.
-#[derive(Drop)]
+#[derive(Clone, Copy)]
 pub struct Cursor {
     pub at: Pos,
     pub count: RowIndex,
@@ -11,14 +13,14 @@ pub struct Cursor {
 }
 
 // Where trivia ends, and whether an open comment was met, now or before.
-#[derive(Drop)]
+#[derive(Clone, Copy)]
 pub struct Skip {
     pub at: Pos,
     pub met: bool,
 }
 
 // A reader's answer: it fits, and ends here; it does not fit, and an open comment was met or not; it went deeper than the limit.
-#[derive(Drop)]
+#[derive(Clone, Copy)]
 pub enum Read {
     Got(Cursor),
     Miss(bool),

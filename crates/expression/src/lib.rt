@@ -1,4 +1,6 @@
 // Expressions. `left` is how many more levels may be entered; a bracket beyond that is answered Deep at once.
+#![tactic(auto)]
+
 ghost use Rattle.std.specs.Prelude.{◌≡◌, ℕ, ◌+◌, ◌*◌, ◌-◌, ◌^◌, ◌≤◌, ◌<◌, length};
 ghost use Rattle.reading.specs.Grammar.{◌▸◌, ◌or◌};
 ghost use Rattle.reading.specs.Rules.{trivia, arg_list, expression_arg, call_args, call_parens, fn_call, identifier_value, current_pc, closed_expression, expression_parens, interpolated_string_factor, expression_factor_inner, expression_factor, term_operator, expression_term, expression_operator, expression};

@@ -1,5 +1,7 @@
 // Reads expressions, operands and config maps of the vectors, and prints their rows. A line of the input is the kind of the part (e, o, c), the
 // place where it begins in two decimal digits, and the text in hexadecimal digits. The expected output is what the Rust gives.
+#![tactic(auto)]
+
 ghost use Rattle.std.specs.Prelude.{◌≡◌, ◌≤◌, ◌<◌, length};
 
 use cursor::{Cursor, Read};

@@ -1,8 +1,10 @@
 // The fields of a line of test cases: decimal numbers, each ended by a byte that is no digit; and a text in runs of bytes.
+#![tactic(auto)]
+
 ghost use Rattle.std.specs.Prelude.{◌≤◌, ◌<◌, length};
 
 // A number of the line, and the place behind the byte that ends it.
-#[derive(Drop)]
+#[derive(Clone, Copy)]
 pub struct Number {
     pub value: usize,
     pub next: usize,

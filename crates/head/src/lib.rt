@@ -1,5 +1,7 @@
 // The parts of statements that report nothing but open comments, read without the state. Each begins behind the trivia `k` before the
 // statement, line ends included, which the statement's reader has skipped once.
+#![tactic(auto)]
+
 pub mod definition;
 pub mod directive;
 pub mod import;

@@ -1,5 +1,7 @@
 // The import loop: reads a pass table from standard input and prints the numbers of its top rows, first to last. Each is worked out where its
 // digits stand, in the table's own bytes; one that has no value is printed as its refusal, with its place.
+#![tactic(auto)]
+
 ghost use Rattle.std.specs.Prelude.{◌≡◌, ◌/◌, ◌≤◌, ◌<◌, length};
 ghost use Rattle.reading.specs.Number.{number_value};
 ghost use Rattle.reading.specs.Table.{row_width};

@@ -1,4 +1,6 @@
 // The leaves of the reader that have rows: characters, names, words, paths, operators, mnemonics.
+#![tactic(auto)]
+
 use table::Pos;
 
 pub mod identifier;
@@ -6,7 +8,7 @@ pub mod mark;
 pub mod operator;
 
 // Where something without rows ends.
-#[derive(Drop)]
+#[derive(Clone, Copy)]
 pub enum Found {
     At(Pos),
     No,

@@ -3,6 +3,8 @@
 // takes the bytes since the row before, and a block. A row that goes back starts from one that has its line and is near. The first row of its
 // subtree mostly begins where it does; if not, as where line feeds stand before the name of a call, its first child is as near as any. The proofs
 // ask of that row only that it has its line.
+#![tactic(auto)]
+
 ghost use Rattle.std.specs.Prelude.{◌≡◌, List, ℕ, ◌+◌, ◌^◌, ◌≤◌, ◌<◌, length};
 ghost use Rattle.reading.specs.Table.{max_text, row_width, room, line};
 ghost use Rattle.line.specs.Lines.{Level, Numbered, lined};
@@ -23,7 +25,7 @@ const RUN: usize = 224;
 const NEAR: usize = 16;
 
 // Places that are known to stand on one line, from the first of them to the last.
-#[derive(Drop)]
+#[derive(Clone, Copy)]
 pub struct Stretch {
     pub from: usize,
     pub to: usize,
@@ -31,7 +33,7 @@ pub struct Stretch {
 }
 
 // A place and its line.
-#[derive(Drop)]
+#[derive(Clone, Copy)]
 struct Mark {
     at: usize,
     line: u32,

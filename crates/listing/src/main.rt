@@ -1,4 +1,6 @@
 // Prints the reading of standard input, as document 01 has it: rows, errors, requests and the end state, or a refusal.
+#![tactic(auto)]
+
 ghost use Rattle.std.specs.Prelude.{◌<◌};
 
 use libc::{STDIN_FILENO, STDOUT_FILENO};

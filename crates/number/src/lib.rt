@@ -1,4 +1,6 @@
 // The value of a number's text: document 01, "Number text to value", and document 02, F-6.
+#![tactic(auto)]
+
 ghost use Rattle.std.specs.Prelude.{◌≡◌, ◌+◌, ◌*◌, ◌<◌};
 ghost use Rattle.reading.specs.Number.{radix, same, lowered, digits_value, number_value};
 ghost use Rattle.number.specs.Answers.{base_of, base_told, base_numbered, told};
@@ -7,20 +9,20 @@ ghost use Rattle.number.specs.Steps.{digit_or_none, capped, decided};
 use table::Pos;
 
 // The base of a number, by the mark before it.
-#[derive(Drop)]
+#[derive(Clone, Copy)]
 pub enum NumberType {
     Hex,
     Dec,
     Bin,
 }
 
-#[derive(Drop)]
+#[derive(Clone, Copy)]
 pub enum Typed {
     Known(NumberType),
     Unknown,
 }
 
-#[derive(Drop)]
+#[derive(Clone, Copy)]
 pub enum Valued {
     Is(u64),
     NotANumber,

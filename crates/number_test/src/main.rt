@@ -1,6 +1,8 @@
 // Replays values of number texts, each a part in the middle of other bytes, and compares. A line of the input is a case; tools/make-value-cases
 // makes them, and says what the fields are. Printed are the place of each case that differs, and for each name how many are equal and how many
 // differ.
+#![tactic(auto)]
+
 ghost use Rattle.std.specs.Prelude.{◌<◌, ◌≤◌, length};
 
 use libc::STDIN_FILENO;
@@ -15,7 +17,7 @@ const MARGIN: usize = 32;
 
 // What is expected of a part, and the place of the text's runs. Where `row` is not 0, the part is the body of that row of the text's reading, which
 // has so many numbers.
-#[derive(Drop)]
+#[derive(Clone, Copy)]
 struct Expected {
     row: usize,
     numbers: usize,

@@ -1,4 +1,6 @@
 // Operands. The forms in the Rust's order: immediate, `( )` then suffix, `( suffix )`, plain. What stands behind `(` is read once for all of them.
+#![tactic(auto)]
+
 ghost use Rattle.std.specs.Prelude.{true, [], ◌∷◌, ◌≡◌, ℕ, ◌<◌, ◌^◌, drop};
 ghost use Rattle.reading.specs.Byte.{begins};
 ghost use Rattle.reading.specs.Grammar.{bracket};

@@ -1,4 +1,6 @@
 // What several programs print.
+#![tactic(auto)]
+
 use libc::STDOUT_FILENO;
 use parser::Answer;
 use std::num::wrapping_add_usize;
@@ -32,7 +34,7 @@ pub fn not_read(a: Answer) {
 }
 
 // The cases of a name: how many are equal, and how many differ.
-#[derive(Drop)]
+#[derive(Clone, Copy)]
 pub struct Tally {
     pub equal: usize,
     pub different: usize,

@@ -1,4 +1,6 @@
 // The call that reads a text into three lent tables.
+#![tactic(auto)]
+
 ghost use Rattle.std.specs.Prelude.{Bool, List, ℕ, ◌≤◌};
 ghost use Rattle.parser.specs.Answers.{call, Meets, Cleared, ReadSo};
 
@@ -7,7 +9,7 @@ use state::{Done, State};
 use trivia::High;
 
 // How many records there are of each kind, and the end state.
-#[derive(Drop)]
+#[derive(Clone, Copy)]
 pub struct Reading {
     pub rows: usize,
     pub errors: usize,
@@ -17,7 +19,7 @@ pub struct Reading {
 }
 
 // The reading, or a refusal with what it gives; specs/Answers has document 01's numbers.
-#[derive(Drop)]
+#[derive(Clone, Copy)]
 pub enum Answer {
     Read(Reading),
     TooLong(usize),

@@ -1,5 +1,7 @@
 // The reader over a row table, and the top rows of a whole reading, first to last.
 // The borrow checker covers no function over a struct that holds a slice: `new`, `step`, `moved` and `last_subtree` are proved by hand. The work is `table::walk`'s.
+#![tactic(auto)]
+
 ghost use Rattle.std.specs.Prelude.{◌≡◌, ◌++◌, ◌-◌, ◌≤◌, length, take};
 ghost use Rattle.reading.specs.Table.{answered, zeros};
 ghost use Rattle.reading.specs.Walk.{walk};
@@ -10,7 +12,7 @@ ghost use Rattle.rows.specs.Tops.{top_rows, how_many, tops_listed};
 use table::Walked;
 
 // A row table, and how many of its rows are ahead: a walk goes from the last of them to the first.
-#[derive(Drop)]
+#[derive(Clone, Copy)]
 pub struct Reader<'a> {
     pub words: &'a [u32],
     pub count: usize,
@@ -47,7 +49,7 @@ pub fn last_subtree(words: &[u32], count: usize) -> Walked
 }
 
 // How many top rows there are. Or 13, with the count at which no subtree ends.
-#[derive(Drop)]
+#[derive(Clone, Copy)]
 pub enum Counted {
     Tops(usize),
     NoSubtree(usize),
@@ -103,7 +105,7 @@ fn clear(roots: &mut [usize], from: usize)
 }
 
 // How many top rows there are; 13, as above; or 6, with how many there are, where the lent table has fewer words.
-#[derive(Drop)]
+#[derive(Clone, Copy)]
 pub enum TopsAnswer {
     Count(usize),
     NoSubtree(usize),

@@ -1,4 +1,6 @@
 // Reads a pass table from standard input and prints its top rows, first to last, as the import loop walks them. Then what such a walk refuses.
+#![tactic(auto)]
+
 use libc::{STDIN_FILENO, STDOUT_FILENO};
 use parser::Answer;
 use rows::TopsAnswer;

@@ -1,4 +1,6 @@
 // How much of a list of texts is trivia, and which texts have most of it: document 02, F-14. And the two words of a text, from its reading.
+#![tactic(auto)]
+
 ghost use Rattle.std.specs.Prelude.{◌≡◌, ℕ, suc, ◌+◌, ◌^◌, ◌≤◌, ◌<◌, min, max, length, take, get_or};
 ghost use Rattle.reading.specs.Table.{max_text, room, row_width};
 ghost use Rattle.share.specs.Answers.{told, told_words};
@@ -20,7 +22,7 @@ pub const TRIVIA: usize = 0;
 pub const LENGTH: usize = 1;
 
 // The pooled share, how many of the largest there are, and their indexes, the largest first. Absent ones are 0.
-#[derive(Drop)]
+#[derive(Clone, Copy)]
 pub struct SharesFound {
     pub numerator: u64,
     pub denominator: u64,
@@ -31,20 +33,20 @@ pub struct SharesFound {
 }
 
 // Or 27, with the number of texts; or 28, with the index of the first that is wrong.
-#[derive(Drop)]
+#[derive(Clone, Copy)]
 pub enum SharesAnswer {
     Found(SharesFound),
     TooManyTexts(usize),
     WrongText(usize),
 }
 
-#[derive(Drop)]
+#[derive(Clone, Copy)]
 struct Fraction {
     numerator: u64,
     denominator: u64,
 }
 
-#[derive(Drop)]
+#[derive(Clone, Copy)]
 struct Largest {
     count: usize,
     first: usize,
@@ -236,14 +238,14 @@ pub fn shares(words: &[u32]) -> SharesAnswer
 }
 
 // The two words of a text.
-#[derive(Drop)]
+#[derive(Clone, Copy)]
 pub struct TextWords {
     pub trivia: u32,
     pub length: u32,
 }
 
 // Or 13 or 6, as `rows::tops`; or 28, giving 0, where what the rows and the text say is wrong.
-#[derive(Drop)]
+#[derive(Clone, Copy)]
 pub enum TextAnswer {
     Words(TextWords),
     NoSubtree(usize),

@@ -1,6 +1,8 @@
 // Replays lists of texts and their shares, and texts and their two words, and compares. A line of the input is a case; tools/make-share-cases
 // makes them, and says what the fields are. Printed are the place of each case that differs, and for each name how many are equal and how many
 // differ.
+#![tactic(auto)]
+
 ghost use Rattle.std.specs.Prelude.{◌≤◌, ◌<◌, length};
 
 use libc::STDIN_FILENO;
@@ -11,7 +13,7 @@ use share::{SharesAnswer, TextAnswer};
 use table::{ERROR, REQUEST, ROW};
 
 // The outcome that is expected of a list, how many words it has, and the place of its texts.
-#[derive(Drop)]
+#[derive(Clone, Copy)]
 struct Expected {
     refusal: usize,
     given: usize,

@@ -1,5 +1,7 @@
 // The state that a failed attempt leaves changed, what a reader with the state answers, and reports. The relation between an answer and the
 // written reading is in specs/, the laws that put such relations together in proofs/.
+#![tactic(auto)]
+
 ghost use Rattle.std.specs.Prelude.{◌^◌, ◌<◌};
 ghost use Rattle.state.specs.Acts.{Reported, Noted, Requested};
 
@@ -7,7 +9,7 @@ use cursor::Cursor;
 use table::Pos;
 
 // The last scope number, the flag that swallows the next error, and how many errors and requests there are.
-#[derive(Drop)]
+#[derive(Clone, Copy)]
 pub struct State {
     pub scope: usize,
     pub swallow: bool,
@@ -16,7 +18,7 @@ pub struct State {
 }
 
 // A reader's answer: it fits, and ends here; it does not fit; it went deeper than the limit.
-#[derive(Drop)]
+#[derive(Clone, Copy)]
 pub enum Done {
     Got(Cursor, State),
     Miss(State),

@@ -1,5 +1,7 @@
 // Statements: the twenty alternatives of statement(), blocks, error text, and the file. A statement that reports nothing of its own is read
 // without the state, and what it met is noted once behind it. The file alone knows of lines.
+#![tactic(auto)]
+
 ghost use Rattle.std.specs.Prelude.{false, ◌≡◌, ◌^◌, ◌≤◌, ◌<◌, length};
 ghost use Rattle.reading.specs.Grammar.{◌or◌};
 ghost use Rattle.reading.specs.Rules.{statement, error, eof, source_file};
@@ -25,7 +27,7 @@ pub mod stmt;
 pub mod text;
 
 // What stands behind a statement's head: a block or nothing, a block, or an if's branches.
-#[derive(Drop)]
+#[derive(Clone, Copy)]
 pub enum Body {
     Maybe,
     Block,

@@ -2,6 +2,8 @@
 // and the order of the words in crate reading (specs/Table), and the contracts say that both agree.
 // Outside stay the width of an item of trivia (crate trivia, which pushes one as it would an error) and the numbers in the C header, which
 // library/compare holds to these.
+#![tactic(auto)]
+
 ghost use Rattle.std.specs.Prelude.{◌≡◌, ◌++◌, ℕ, ◌+◌, ◌*◌, ◌-◌, ◌^◌, ◌≤◌, ◌<◌, length, take};
 ghost use Rattle.reading.specs.Table.{zeros, row_width, error_width, request_width};
 ghost use Rattle.reading.specs.Walk.{walk};
@@ -12,11 +14,11 @@ pub mod column;
 pub mod kind;
 
 // A byte's place in the text, the Rust's Pos.
-#[derive(Drop)]
+#[derive(Clone, Copy)]
 pub struct Pos(pub usize);
 
 // A row's number, counted from 0.
-#[derive(Drop)]
+#[derive(Clone, Copy)]
 pub struct RowIndex(pub usize);
 
 // The words of a record.
@@ -105,7 +107,7 @@ pub fn zero(words: &mut [u32], from: usize)
 }
 
 // The last subtree: its root's number and the count of the rows before it. Or 13, with the count.
-#[derive(Drop)]
+#[derive(Clone, Copy)]
 pub enum Walked {
     Subtree(RowIndex, usize),
     NoSubtree(usize),

@@ -1,4 +1,6 @@
 // Walks row tables picked by hand with table::walk, and prints each answer.
+#![tactic(auto)]
+
 use libc::STDOUT_FILENO;
 use table::Walked;
 

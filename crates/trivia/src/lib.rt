@@ -1,4 +1,6 @@
 // Trivia: classes of bytes, runs, comments, the items of trivia, and the call that lists them.
+#![tactic(auto)]
+
 ghost use Rattle.std.specs.Prelude.{◌≡◌, true, false, [], ◌∷◌, ◌+◌, ◌≤◌, ◌<◌, length, drop, get_or};
 ghost use Rattle.std.proofs.Math.Option.{none};
 ghost use Rattle.reading.specs.Byte.{blank, digit, run, begins};
@@ -72,7 +74,7 @@ pub fn digits_end(s: &[u8], at: Pos) -> Pos
 }
 
 // Where a comment ends, or that the text ends first.
-#[derive(Drop)]
+#[derive(Clone, Copy)]
 pub enum Close {
     At(Pos),
     Open,
@@ -101,7 +103,7 @@ pub fn two_are(s: &[u8], at: Pos, a: u8, b: u8) -> bool
 }
 
 // One item of trivia: its kind and its end.
-#[derive(Drop)]
+#[derive(Clone, Copy)]
 pub enum Piece {
     Item(usize, Pos),
     No,
@@ -238,7 +240,7 @@ pub fn multiline_trivia(s: &[u8], at: Pos, met: bool) -> Skip
 }
 
 // Where the first byte of 128 or more stands.
-#[derive(Drop)]
+#[derive(Clone, Copy)]
 pub enum High {
     At(Pos),
     No,
@@ -284,7 +286,7 @@ fn high_byte(s: &[u8]) -> High
 const ITEM: usize = 3;
 
 // How many items were listed, and where they end.
-#[derive(Drop)]
+#[derive(Clone, Copy)]
 struct Listing {
     count: usize,
     end: Pos,
@@ -312,7 +314,7 @@ fn list_items(text: &[u8], table: &mut [u32]) -> Listing
 }
 
 // The number of items, or a refusal with what it gives.
-#[derive(Drop)]
+#[derive(Clone, Copy)]
 pub enum ItemsAnswer {
     Count(usize),
     TooLong(usize),

@@ -1,4 +1,6 @@
 // Runs trivia::items on texts and tables picked by hand, and prints each answer and the whole table. A table is sevens before the call.
+#![tactic(auto)]
+
 use libc::STDOUT_FILENO;
 use trivia::ItemsAnswer;
 

@@ -1,5 +1,7 @@
 // Replays vectors through the call that reads a text, and compares. A line of the input is a case; tools/make-vector-cases makes them, and
 // says what the fields are. Printed are the place of each case that differs, and how many of each kind are equal and how many differ.
+#![tactic(auto)]
+
 ghost use Rattle.std.specs.Prelude.{◌<◌, length};
 
 use libc::{STDIN_FILENO, STDOUT_FILENO};
@@ -10,7 +12,7 @@ use std::num::wrapping_add_usize;
 const FILL: u32 = 7;
 
 // The starting state and the level limit, and the place behind them.
-#[derive(Drop)]
+#[derive(Clone, Copy)]
 struct Start {
     scope: usize,
     swallow: bool,
@@ -19,7 +21,7 @@ struct Start {
 }
 
 // Words of the three tables, and the place behind these numbers.
-#[derive(Drop)]
+#[derive(Clone, Copy)]
 struct Room {
     rows: usize,
     errors: usize,
@@ -28,14 +30,14 @@ struct Room {
 }
 
 // How far a case is compared, and whether all was equal up to there.
-#[derive(Drop)]
+#[derive(Clone, Copy)]
 struct Mark {
     next: usize,
     same: bool,
 }
 
 // Cases by kind; `ended` once no input was left.
-#[derive(Drop)]
+#[derive(Clone, Copy)]
 struct Counts {
     equal: [usize; 9],
     different: [usize; 9],

@@ -1,5 +1,7 @@
 // The public calls for C and Rust, over numbers and slices. A call returns 0 for an answer, or the refusal's number; what else it says stands
 // behind pointers.
+#![tactic(auto)]
+
 ghost use Rattle.std.specs.Prelude.{◌≡◌};
 ghost use Rattle.reading.specs.Items.{trivia_items};
 ghost use Rattle.reading.specs.Outcome.{outcome};
@@ -16,7 +18,7 @@ use share::{SharesAnswer, TextAnswer};
 use table::Walked;
 use trivia::ItemsAnswer;
 
-#[derive(Drop)]
+#[derive(Clone, Copy)]
 struct ReadNumbers {
     code: u32,
     rows: usize,
@@ -96,7 +98,7 @@ pub extern "C" fn vireopatch_read(
     n.code
 }
 
-#[derive(Drop)]
+#[derive(Clone, Copy)]
 struct ValueNumbers {
     code: u32,
     value: u64,
@@ -128,7 +130,7 @@ pub extern "C" fn vireopatch_value(number_type: u32, text: &[u8], value: &mut u6
     n.code
 }
 
-#[derive(Drop)]
+#[derive(Clone, Copy)]
 struct ItemNumbers {
     code: u32,
     count: usize,
@@ -184,7 +186,7 @@ pub extern "C" fn vireopatch_items(
     n.code
 }
 
-#[derive(Drop)]
+#[derive(Clone, Copy)]
 struct WalkNumbers {
     code: u32,
     root: usize,
@@ -230,7 +232,7 @@ pub extern "C" fn vireopatch_walk(
     n.code
 }
 
-#[derive(Drop)]
+#[derive(Clone, Copy)]
 struct SharesNumbers {
     code: u32,
     numerator: u64,
@@ -302,7 +304,7 @@ pub extern "C" fn vireopatch_shares(
     s.code
 }
 
-#[derive(Drop)]
+#[derive(Clone, Copy)]
 struct WordsNumbers {
     code: u32,
     trivia: u32,

@@ -1,4 +1,6 @@
 // Which word of a list stands at a place of a text, without rows.
+#![tactic(auto)]
+
 ghost use Rattle.std.specs.Prelude.{◌≡◌, ◌≤◌, length, drop};
 ghost use Rattle.cursor.specs.Word.{first_word};
 ghost use Rattle.reading.specs.Byte.{lower, begins_no_case};
@@ -10,7 +12,7 @@ pub mod mnemonic;
 pub mod operator;
 
 // A word of a list: its length and its detail.
-#[derive(Drop)]
+#[derive(Clone, Copy)]
 pub enum Picked {
     Word(usize, usize),
     Nothing,

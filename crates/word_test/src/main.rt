@@ -1,4 +1,6 @@
 // What is picked in some texts, each a row of cells of the same width: the cell, and the length and the detail of the word there.
+#![tactic(auto)]
+
 ghost use Rattle.std.specs.Prelude.{◌≤◌, length};
 
 use libc::STDOUT_FILENO;
