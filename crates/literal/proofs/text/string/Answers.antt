@@ -44,6 +44,11 @@ push_row-requires c =
       omega arith,
     )
 
+pub overflow_add-result : goal.overflow_add-result
+overflow_add-result c =
+    let x = string_inside c.args.interpolated c.requires.skips c.char-f.ensures _ c.in-Got.is c.items-g.ensures _ c.in-Got-g.is c.requires.ready in
+    omega (arith, c.requires.ready.small, x.grown, x.within, x.few)
+
 pub returns : goal.returns
 returns c =
     let x = string_inside c.args.interpolated c.requires.skips c.char-f.ensures _ c.in-Got.is c.items-g.ensures _ c.in-Got-g.is c.requires.ready in
