@@ -1,10 +1,7 @@
 -- What was read, with the bytes that are left behind it, is answered as the whole text.
 use mathlib.Core.Path.{◌∙◌}
-use Prim.Native.Nat.{◌-◌}
-use native.Mathlib.Omega.{arith}
-use lib.ListN.{length}
 use Rattle.number.specs.Answers.{base_of}
-use Rattle.number.proofs.Totals.{radix_pos, Left, left_all, left_next, left_none}
+use Rattle.number.proofs.Totals.{left_all, left_next, left_none}
 use Rattle.number.proofs.digits.Goals as goal
 
 pub loop-i-init : goal.loop-i-init

@@ -1,8 +1,4 @@
 use Rattle.state.proofs.Reports.{note_none, note_lost, note_made}
-use borrow.Author.Rules.{rules}
-use Rattle.state.proofs.note.Reads as reads
-use Rattle.state.proofs.note.Lts as lts
-use Rattle.table.proofs.push_error.Reads as push-error-reads
 use Rattle.state.proofs.note.Goals as goal
 
 -- src/lib.rt:42:9

@@ -1,8 +1,4 @@
 use Rattle.state.proofs.Reports.{report_lost, report_kept}
-use borrow.Author.Rules.{rules}
-use Rattle.state.proofs.report.Reads as reads
-use Rattle.state.proofs.report.Lts as lts
-use Rattle.table.proofs.push_error.Reads as push-error-reads
 use Rattle.state.proofs.report.Goals as goal
 
 -- src/lib.rt:30:9
