@@ -1,13 +1,10 @@
 -- The invariant: the rows before row m have their lines, whatever the text.
-use mathlib.Core.Path.{◌≡◌, refl, sym}
+use mathlib.Core.Path.{◌≡◌}
 use mathlib.Core.List.{List}
-use Prim.Native.Nat.{ℕ, ◌+◌, ◌*◌, ◌-◌, ◌≤◌, ◌<◌}
-use native.Mathlib.Omega.{arith}
-use lib.ListN.{length, length-set}
-use Rattle.reading.specs.Table.{row_width, low_column}
+use Prim.Native.Nat.{ℕ, ◌+◌, ◌-◌, ◌≤◌, ◌<◌}
+use lib.ListN.{length}
 use Rattle.line.specs.Lines.{lined}
 use Rattle.line.specs.Marks.{On}
-use Rattle.line.proofs.Fills.{lined_more}
 use Rattle.line.proofs.fill.Given as goal
 
 abbrev pub invariant-loop-m : goal.invariant-loop-m

@@ -1,12 +1,9 @@
 -- The invariant: so many line feeds lead from the first place to this one.
-use mathlib.Core.Path.{◌≡◌, sym, ◌∙◌}
-use mathlib.Core.Logic.{◌⊎◌, inl, inr}
+use mathlib.Core.Path.{◌≡◌}
+use mathlib.Core.Logic.{◌⊎◌}
 use Prim.Native.Nat.{◌+◌, ◌-◌, ◌≤◌}
-use native.Mathlib.Omega.{arith}
 use lib.ListN.{length}
-use borrow.Author.Rules.{rules}
 use Rattle.reading.specs.Table.{line}
-use Rattle.line.proofs.Lines.{line_bound, line_reached}
 use Rattle.line.proofs.line_feeds.Given as goal
 
 abbrev pub invariant-loop-i : goal.invariant-loop-i

@@ -1,16 +1,15 @@
 -- The invariant: the rows before row n have their lines, and the stretch has its line.
 use mathlib.Core.Path.{◌≡◌, refl, ap, sym, subst, ◌∙◌}
-use mathlib.Core.Logic.{◌⊎◌, inl, inr}
-use Prim.Native.Nat.{◌+◌, ◌*◌, ◌-◌, ◌≤◌}
+use mathlib.Core.Logic.{inl, inr}
 use native.Mathlib.Omega.{arith}
-use lib.ListN.{length, length-set}
-use borrow.Author.Rules.{rules}
-use Rattle.reading.specs.Table.{row_width, low_column, room}
+use lib.ListN.{length}
+use Rattle.reading.specs.Table.{row_width, room}
 use Rattle.line.specs.Lines.{lined}
 use Rattle.line.specs.Marks.{On}
 use Rattle.line.proofs.Fills.{lined_length, numbered_so, numbered_same, lined_more, lined_full}
 use Rattle.line.proofs.Stretches.{reaches_as}
 use Rattle.line.proofs.number.Goals as goal
+
 pub loop-n-init : goal.loop-n-init
 loop-n-init c = elim c.if-room-count.branch [ goal.then-room-count x ↦ (let e : c.if-room-count.end ≡ room row_width c.args.rows.now = x.end-is in (c.requires.2, refl, c.requires.1, numbered_same _ _ c.requires.3, omega (arith, e, x.if-room-count.true), omega (arith, e), inr (omega (arith, e)))) | goal.else-room-count x ↦ (let e : c.if-room-count.end ≡ c.args.count = x.end-is in (c.requires.2, refl, c.requires.1, numbered_same _ _ c.requires.3, omega (arith, e), omega (arith, e, x.if-room-count.false), inl (omega (arith, e)))) ]
 

@@ -1,11 +1,8 @@
 -- Each test of the code is one of the definition's.
-use Prim.Native.Nat.{◌+◌, ◌*◌, ◌-◌}
-use native.Mathlib.Omega.{arith}
 use borrow.Author.Tests.{eq-eqb, ne_eqb, lt-ltb, le-ltb}
-use Rattle.reading.specs.Table.{row_width, size_column}
 use Rattle.reading.specs.Walk.{walk}
-use borrow.Author.Rules.{rules}
 use Rattle.table.proofs.walk.Goals as goal
+
 pub returns-then-count-eq0 : goal.returns-then-count-eq0
 unfolding walk
 returns-then-count-eq0 c = simp (eq-eqb _ _ c.if-count-eq0.true)

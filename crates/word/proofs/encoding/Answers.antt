@@ -3,7 +3,6 @@
 use mathlib.Core.Path.{ap, sym, ◌∙◌}
 use Rattle.word.specs.Words.{picked_of}
 use Rattle.word.proofs.Facts.{first_is, first_not, first_none}
-use borrow.Author.Rules.{rules}
 use Rattle.word.proofs.encoding.Goals as goal
 
 pub returns-then-begins : goal.returns-then-begins

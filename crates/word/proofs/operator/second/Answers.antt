@@ -9,7 +9,6 @@ use borrow.Author.Tests.{eq-eqb, ne_eqb}
 use lib.ListN.{get_or}
 use Rattle.cursor.proofs.Places.{begins_end, begins_at}
 use Rattle.word.specs.Words.{two_or}
-use borrow.Author.Rules.{rules}
 use Rattle.word.proofs.operator.second.Goals as goal
 
 pub returns-then-i-s : goal.returns-then-i-s
