@@ -1,0 +1,15 @@
+-- The invariant: unless one was found, no closing mark starts in the bytes looked at.
+use mathlib.Core.Path.{◌≡◌}
+use mathlib.Core.Bool.{false}
+use Prim.Native.Nat.{◌+◌, ◌-◌, ◌≤◌}
+use native.Mathlib.Omega.{arith}
+use lib.ListN.{length}
+use Rattle.trivia.specs.Piece.{closes_at, Clear}
+use Rattle.trivia.proofs.Clear.{clear_none, clear_found, clear_to}
+use Rattle.trivia.proofs.comment.block_closes.Given as goal
+
+abbrev pub invariant-loop-j : goal.invariant-loop-j
+invariant-loop-j l = (l.j ≤ 64) × (l.found ≡ false → Clear (closes_at l.s) l.at.0 (l.at.0 + l.j))
+
+abbrev pub decreases-loop-j : goal.decreases-loop-j
+decreases-loop-j l = 64 - l.j

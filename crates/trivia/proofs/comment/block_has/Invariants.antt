@@ -1,0 +1,14 @@
+-- The invariant: unless one was found, neither byte stands in the bytes looked at.
+use mathlib.Core.Path.{◌≡◌}
+use mathlib.Core.Bool.{false}
+use Prim.Native.Nat.{◌+◌, ◌-◌, ◌≤◌}
+use native.Mathlib.Omega.{arith}
+use Rattle.trivia.specs.Piece.{either_at, Clear}
+use Rattle.trivia.proofs.Clear.{clear_none, clear_found, clear_to}
+use Rattle.trivia.proofs.comment.block_has.Given as goal
+
+abbrev pub invariant-loop-j : goal.invariant-loop-j
+invariant-loop-j l = (l.j ≤ 16) × (l.found ≡ false → Clear (either_at l.a l.b l.s) l.at.0 (l.at.0 + l.j))
+
+abbrev pub decreases-loop-j : goal.decreases-loop-j
+decreases-loop-j l = 16 - l.j

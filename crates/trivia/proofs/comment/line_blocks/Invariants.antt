@@ -1,0 +1,15 @@
+-- The invariant: the line from the start on ends where the line from i on does.
+use mathlib.Core.Path.{◌≡◌, refl, ◌∙◌}
+use Prim.Native.Nat.{◌+◌, ◌-◌}
+use native.Mathlib.Omega.{arith}
+use lib.ListN.{length, drop}
+use Rattle.reading.specs.Byte.{run}
+use Rattle.trivia.specs.Class.{in_line}
+use Rattle.trivia.proofs.Clear.{line_over}
+use Rattle.trivia.proofs.comment.line_blocks.Given as goal
+
+abbrev pub invariant-loop-i : goal.invariant-loop-i
+invariant-loop-i l = l.initial.i + run in_line (drop l.initial.i l.s) ≡ l.i + run in_line (drop l.i l.s)
+
+abbrev pub decreases-loop-i : goal.decreases-loop-i
+decreases-loop-i l = length l.s - l.i

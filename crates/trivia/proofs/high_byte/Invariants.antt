@@ -1,0 +1,14 @@
+-- The invariant: the first high byte is the first from i on.
+use mathlib.Core.Path.{◌≡◌, refl, sym, ◌∙◌}
+use Prim.Native.Nat.{◌-◌}
+use native.Mathlib.Omega.{arith}
+use lib.ListN.{length, drop}
+use Rattle.reading.specs.Table.{first_high}
+use Rattle.trivia.proofs.Highs.{high_none, high_here, high_on}
+use Rattle.trivia.proofs.high_byte.Given as goal
+
+abbrev pub invariant-loop-i : goal.invariant-loop-i
+invariant-loop-i l = first_high 0 l.s ≡ first_high l.i (drop l.i l.s)
+
+abbrev pub decreases-loop-i : goal.decreases-loop-i
+decreases-loop-i l = length l.s - l.i

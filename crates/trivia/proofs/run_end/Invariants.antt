@@ -1,0 +1,16 @@
+-- The invariant: the run from the start on ends where the run from i on does.
+use mathlib.Core.Path.{◌≡◌, refl, sym, ◌∙◌}
+use Prim.Native.Nat.{◌+◌, ◌-◌}
+use native.Mathlib.Omega.{arith}
+use borrow.Author.Tests.{not-true, not-false}
+use lib.ListN.{length, drop}
+use Rattle.cursor.proofs.Places.{run_end, run_stop, run_go}
+use Rattle.reading.specs.Byte.{run}
+use Rattle.trivia.specs.Class.{among}
+use Rattle.trivia.proofs.run_end.Given as goal
+
+abbrev pub invariant-loop-i : goal.invariant-loop-i
+invariant-loop-i l = l.initial.i + run (among l.class l.inside) (drop l.initial.i l.s) ≡ l.i + run (among l.class l.inside) (drop l.i l.s)
+
+abbrev pub decreases-loop-i : goal.decreases-loop-i
+decreases-loop-i l = length l.s - l.i
