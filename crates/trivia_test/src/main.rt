@@ -53,7 +53,12 @@ fn marks(out: &mut impl Write) -> io::Result<()> {
 fn several(out: &mut impl Write) -> io::Result<()> {
     six(out, b"all", b"\r\n\n  // x\r\n/**//*")?;
     let mut table = [7u32; 21];
-    show(out, b"all, with room", b"\r\n\n  // x\r\n/**//*", &mut table)
+    show(
+        out,
+        b"all, with room",
+        b"\r\n\n  // x\r\n/**//*",
+        &mut table,
+    )
 }
 
 fn lone_returns(out: &mut impl Write) -> io::Result<()> {
