@@ -49,12 +49,7 @@ pub fn no_cases() -> Tally {
 }
 
 // With one more, which stands at this place of the input. One that differs is printed.
-pub fn counted(
-    out: &mut impl Write,
-    tally: Tally,
-    at: usize,
-    same: bool,
-) -> io::Result<Tally> {
+pub fn counted(out: &mut impl Write, tally: Tally, at: usize, same: bool) -> io::Result<Tally> {
     let mut t = tally;
     if same {
         t.equal = wrapping_add_usize(t.equal, 1);
