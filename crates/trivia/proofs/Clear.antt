@@ -17,8 +17,7 @@ use Rattle.cursor.proofs.Places.{run_go}
 use Rattle.trivia.proofs.Marks.{left_step, left_on}
 use Rattle.trivia.specs.Class.{in_line}
 use Rattle.trivia.specs.Piece.{close_of, closed, closes_at, either_at, Clear, left, Unmarked}
-use Rattle.trivia.specs.declared.Close.{Close}
-use Rattle.trivia.specs.declared.Close.TheVariants.{At, Open}
+use Rattle.trivia.specs.declared.Close.TheVariants.{Open}
 
 -- Tests that no place of a part passes -----------------------------------------
 

@@ -1,13 +1,9 @@
 -- The invariant: unless one was found, the first high byte is the first from i on.
-use mathlib.Core.Path.{◌≡◌, refl, sym, ◌∙◌}
+use mathlib.Core.Path.{◌≡◌}
 use mathlib.Core.Bool.{false}
 use Prim.Native.Nat.{◌-◌}
-use native.Mathlib.Omega.{arith}
-use borrow.Author.Tests.{leb-false}
 use lib.ListN.{length, drop}
 use Rattle.reading.specs.Table.{first_high}
-use Rattle.trivia.proofs.Highs.{high_none, high_on}
-use Rattle.reading.proofs.Bool.{neither}
 use Rattle.trivia.proofs.any_high.Given as goal
 
 abbrev pub invariant-loop-i : goal.invariant-loop-i

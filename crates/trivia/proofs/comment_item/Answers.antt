@@ -1,8 +1,8 @@
 -- A case for each way out: closed, open, a line comment, one with no text, and another byte behind the slash.
 use mathlib.Core.Path.{sym, ◌∙◌}
-use borrow.Author.Rules.{rules}
 use Rattle.trivia.proofs.Pieces.{starts_closed, starts_open, starts_line, starts_bare, starts_slash}
 use Rattle.trivia.proofs.comment_item.Goals as goal
+
 pub returns-in-At : goal.returns-in-At
 returns-in-At c =
     starts_closed _ _ c.requires.at_in_bounds

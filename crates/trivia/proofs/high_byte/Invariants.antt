@@ -1,10 +1,8 @@
 -- The invariant: the first high byte is the first from i on.
-use mathlib.Core.Path.{◌≡◌, refl, sym, ◌∙◌}
+use mathlib.Core.Path.{◌≡◌}
 use Prim.Native.Nat.{◌-◌}
-use native.Mathlib.Omega.{arith}
 use lib.ListN.{length, drop}
 use Rattle.reading.specs.Table.{first_high}
-use Rattle.trivia.proofs.Highs.{high_none, high_here, high_on}
 use Rattle.trivia.proofs.high_byte.Given as goal
 
 abbrev pub invariant-loop-i : goal.invariant-loop-i

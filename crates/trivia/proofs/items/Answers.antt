@@ -1,9 +1,9 @@
 -- A case for each answer: the tests that led to it are those of the definition.
 use mathlib.Core.Path.{ap, sym, ◌∙◌}
-use borrow.Author.Rules.{rules}
 use Rattle.trivia.specs.Answers.{high_of}
 use Rattle.trivia.proofs.Outcome.{too_long, high_byte, no_item, no_room, counted}
 use Rattle.trivia.proofs.items.Goals as goal
+
 pub returns-then-text-gt-MAX_TEXT : goal.returns-then-text-gt-MAX_TEXT
 returns-then-text-gt-MAX_TEXT c = too_long _ _ c.if-text-gt-MAX_TEXT.true
 

@@ -1,12 +1,10 @@
 -- The invariant: the items that are passed are in the table, and whatever follows them is listed behind them.
-use mathlib.Core.Path.{◌≡◌, refl, ◌∙◌}
-use Prim.Native.Nat.{◌-◌}
+use mathlib.Core.Path.{◌∙◌}
 use native.Mathlib.Omega.{arith}
-use borrow.Author.Rules.{rules}
-use lib.ListN.{length}
-use Rattle.trivia.proofs.Entries.{Passed, passed_none, passed_more, passed_all}
+use Rattle.trivia.proofs.Entries.{passed_more, passed_all}
 use Rattle.trivia.proofs.Walk.{item_bounds}
 use Rattle.trivia.proofs.list_items.Goals as goal
+
 pub returns-in_default : goal.returns-in_default
 returns-in_default c = passed_all c.loop-kind.invariant.1 c.trivia_item-piece.ensures c.in_default.is
 

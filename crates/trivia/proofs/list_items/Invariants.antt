@@ -1,11 +1,8 @@
 -- The invariant: the items that are passed are in the table, and whatever follows them is listed behind them.
-use mathlib.Core.Path.{◌≡◌, refl, ◌∙◌}
+use mathlib.Core.Path.{◌≡◌}
 use Prim.Native.Nat.{◌-◌}
-use native.Mathlib.Omega.{arith}
-use borrow.Author.Rules.{rules}
 use lib.ListN.{length}
-use Rattle.trivia.proofs.Entries.{Passed, passed_none, passed_more, passed_all}
-use Rattle.trivia.proofs.Walk.{item_bounds}
+use Rattle.trivia.proofs.Entries.{Passed}
 use Rattle.trivia.proofs.list_items.Given as goal
 
 abbrev pub invariant-loop-kind : goal.invariant-loop-kind

@@ -1,10 +1,7 @@
 -- The invariant: the run from the start on ends where the run from i on does.
-use mathlib.Core.Path.{◌≡◌, refl, sym, ◌∙◌}
+use mathlib.Core.Path.{◌≡◌}
 use Prim.Native.Nat.{◌+◌, ◌-◌}
-use native.Mathlib.Omega.{arith}
-use borrow.Author.Tests.{not-true, not-false}
 use lib.ListN.{length, drop}
-use Rattle.cursor.proofs.Places.{run_end, run_stop, run_go}
 use Rattle.reading.specs.Byte.{run}
 use Rattle.trivia.specs.Class.{among}
 use Rattle.trivia.proofs.run_end.Given as goal

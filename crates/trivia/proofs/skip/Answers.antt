@@ -1,12 +1,10 @@
 -- The invariant: the items that are passed, and whatever follows them, are trivia from the start on.
 use mathlib.Core.Path.{ap, ◌∙◌}
-use Prim.Native.Nat.{◌-◌}
 use native.Mathlib.Omega.{arith}
-use borrow.Author.Rules.{rules}
-use lib.ListN.{length}
 use Rattle.trivia.specs.Piece.{kept}
-use Rattle.trivia.proofs.Walk.{Walked, walked_none, item_bounds, walked_more, walked_skips, kept_none, kept_no}
+use Rattle.trivia.proofs.Walk.{item_bounds, walked_more, walked_skips, kept_none, kept_no}
 use Rattle.trivia.proofs.skip.Goals as goal
+
 pub returns-in_default : goal.returns-in_default
 returns-in_default c =
     walked_skips c.loop-kind.invariant c.trivia_item-piece.ensures c.requires

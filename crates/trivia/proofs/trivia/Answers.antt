@@ -1,7 +1,7 @@
 -- Where nothing starts, nothing is skipped.
 use mathlib.Core.Bool.{false}
 use Rattle.trivia.proofs.Walk.{walked_none, walked_skips}
-use borrow.Author.Rules.{rules}
 use Rattle.trivia.proofs.trivia.Goals as goal
+
 pub returns-then-bare : goal.returns-then-bare
 returns-then-bare c = let n = c.bare.ensures c.if-bare.true in walked_skips (walked_none false _ _ _ c.requires) n.starts c.requires n.none

@@ -2,8 +2,8 @@
 use mathlib.Core.Path.{sym, ◌∙◌}
 use native.Mathlib.Omega.{arith}
 use Rattle.trivia.proofs.Pieces.{above_blank, starts_end, starts_blank, starts_feed, starts_return, starts_lone_return, starts_other}
-use borrow.Author.Rules.{rules}
 use Rattle.trivia.proofs.trivia_item.Goals as goal
+
 pub returns-then-s-low : goal.returns-then-s-low
 returns-then-s-low c = starts_end _ _ c.if-s-low.true
 

@@ -2,6 +2,7 @@
 use mathlib.Core.Path.{refl}
 use Rattle.trivia.specs.Class.{table}
 use Rattle.trivia.proofs.class.masks.Goals as goal
+
 pub returns : goal.returns
 unfolding table
 returns c = refl

@@ -2,10 +2,7 @@
 use mathlib.Core.Path.{◌≡◌}
 use mathlib.Core.Bool.{false}
 use Prim.Native.Nat.{◌+◌, ◌-◌, ◌≤◌}
-use native.Mathlib.Omega.{arith}
-use lib.ListN.{length}
 use Rattle.trivia.specs.Piece.{closes_at, Clear}
-use Rattle.trivia.proofs.Clear.{clear_none, clear_found, clear_to}
 use Rattle.trivia.proofs.comment.block_closes.Given as goal
 
 abbrev pub invariant-loop-j : goal.invariant-loop-j

@@ -2,9 +2,7 @@
 use mathlib.Core.Path.{◌≡◌}
 use mathlib.Core.Bool.{false}
 use Prim.Native.Nat.{◌+◌, ◌-◌, ◌≤◌}
-use native.Mathlib.Omega.{arith}
 use Rattle.trivia.specs.Piece.{either_at, Clear}
-use Rattle.trivia.proofs.Clear.{clear_none, clear_found, clear_to}
 use Rattle.trivia.proofs.comment.block_has.Given as goal
 
 abbrev pub invariant-loop-j : goal.invariant-loop-j

@@ -1,9 +1,7 @@
 -- The invariant: no closing mark starts before i.
 use Prim.Native.Nat.{◌-◌}
-use native.Mathlib.Omega.{arith}
 use lib.ListN.{length}
 use Rattle.trivia.specs.Piece.{closes_at, Clear}
-use Rattle.trivia.proofs.Clear.{clear_none, clear_both}
 use Rattle.trivia.proofs.comment.blocks_end.Given as goal
 
 abbrev pub invariant-loop-i : goal.invariant-loop-i

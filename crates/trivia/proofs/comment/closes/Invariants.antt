@@ -1,10 +1,7 @@
 -- The invariant: no closing mark starts from the first byte looked at on, before i.
-use mathlib.Core.Path.{◌≡◌, refl}
-use Prim.Native.Nat.{ℕ, ◌-◌}
-use native.Mathlib.Omega.{arith}
+use Prim.Native.Nat.{◌-◌}
 use lib.ListN.{length}
 use Rattle.trivia.specs.Piece.{closes_at, Clear}
-use Rattle.trivia.proofs.Clear.{clear_none, clear_both, clear_more, clear_to, unmarked_last}
 use Rattle.trivia.proofs.comment.closes.Given as goal
 
 abbrev pub invariant-loop-i : goal.invariant-loop-i

@@ -1,11 +1,8 @@
 -- The invariant: the line from the start on ends where the line from i on does.
-use mathlib.Core.Path.{◌≡◌, refl, ◌∙◌}
-use Prim.Native.Nat.{◌+◌, ◌-◌}
+use mathlib.Core.Path.{◌∙◌}
 use native.Mathlib.Omega.{arith}
-use lib.ListN.{length, drop}
-use Rattle.reading.specs.Byte.{run}
-use Rattle.trivia.specs.Class.{in_line}
 use Rattle.trivia.proofs.Clear.{line_over}
 use Rattle.trivia.proofs.comment.line_blocks.Goals as goal
+
 pub loop-i-preserved : goal.loop-i-preserved
 loop-i-preserved c = c.loop-i.invariant ∙ line_over _ _ (omega arith) (c.block_has.ensures c.if-block_has.false)

@@ -1,11 +1,9 @@
 -- The invariant: the line from the start on ends where the line from i on does.
-use mathlib.Core.Path.{◌≡◌, refl, ◌∙◌}
+use mathlib.Core.Path.{◌≡◌}
 use Prim.Native.Nat.{◌+◌, ◌-◌}
-use native.Mathlib.Omega.{arith}
 use lib.ListN.{length, drop}
 use Rattle.reading.specs.Byte.{run}
 use Rattle.trivia.specs.Class.{in_line}
-use Rattle.trivia.proofs.Clear.{line_over}
 use Rattle.trivia.proofs.comment.line_blocks.Given as goal
 
 abbrev pub invariant-loop-i : goal.invariant-loop-i

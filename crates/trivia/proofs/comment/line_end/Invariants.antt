@@ -1,10 +1,7 @@
 -- The invariant: the line from the first byte looked at on ends where the line from i on does.
-use mathlib.Core.Path.{◌≡◌, refl, ap, sym, ◌∙◌}
-use mathlib.Core.Bool.{not}
+use mathlib.Core.Path.{◌≡◌}
 use Prim.Native.Nat.{◌+◌, ◌-◌}
-use native.Mathlib.Omega.{arith}
 use lib.ListN.{length, drop}
-use Rattle.cursor.proofs.Places.{run_end, run_stop, run_go}
 use Rattle.reading.specs.Byte.{run}
 use Rattle.trivia.specs.Class.{in_line}
 use Rattle.trivia.proofs.comment.line_end.Given as goal

@@ -1,12 +1,10 @@
 -- The invariants: what is left of the comment from i on is what was left before. The inner loop passes bytes that belong to no mark.
-use mathlib.Core.Path.{◌≡◌, refl, sym, ◌∙◌}
-use Prim.Native.Nat.{◌+◌, ◌≤◌, ◌-◌}
+use mathlib.Core.Path.{sym, ◌∙◌}
 use native.Mathlib.Omega.{arith}
 use borrow.Author.Tests.{not-true}
-use lib.ListN.{length, get_or}
-use Rattle.trivia.specs.Piece.{closed, left}
 use Rattle.trivia.proofs.Marks.{left_all, left_end, left_step, left_plain, left_close, left_less, left_deeper, left_on}
 use Rattle.trivia.proofs.comment.marks_end.Goals as goal
+
 pub marks-init : goal.marks-init
 marks-init c = (omega arith, left_all _ _)
 

@@ -1,11 +1,8 @@
 -- The invariants: what is left of the comment from i on is what was left before. The inner loop passes bytes that belong to no mark.
-use mathlib.Core.Path.{◌≡◌, refl, sym, ◌∙◌}
-use Prim.Native.Nat.{◌+◌, ◌≤◌, ◌-◌}
-use native.Mathlib.Omega.{arith}
-use borrow.Author.Tests.{not-true}
-use lib.ListN.{length, get_or}
+use mathlib.Core.Path.{◌≡◌}
+use Prim.Native.Nat.{◌≤◌, ◌-◌}
+use lib.ListN.{length}
 use Rattle.trivia.specs.Piece.{closed, left}
-use Rattle.trivia.proofs.Marks.{left_all, left_end, left_step, left_plain, left_close, left_less, left_deeper, left_on}
 use Rattle.trivia.proofs.comment.marks_end.Given as goal
 
 abbrev pub invariant-loop-i : goal.invariant-loop-i

@@ -1,9 +1,7 @@
 -- The invariant: no mark starts before i.
-use Prim.Native.Nat.{◌-◌}
 use native.Mathlib.Omega.{arith}
-use lib.ListN.{length}
-use Rattle.trivia.specs.Piece.{Unmarked}
-use Rattle.trivia.proofs.Clear.{unmarked_none, unmarked_more}
+use Rattle.trivia.proofs.Clear.{unmarked_more}
 use Rattle.trivia.proofs.comment.starless_end.Goals as goal
+
 pub loop-i-preserved : goal.loop-i-preserved
 loop-i-preserved c = unmarked_more c.loop-i.invariant (omega arith) (c.block_has.ensures c.if-block_has.false)

@@ -1,9 +1,7 @@
 -- The invariant: no mark starts before i.
 use Prim.Native.Nat.{◌-◌}
-use native.Mathlib.Omega.{arith}
 use lib.ListN.{length}
 use Rattle.trivia.specs.Piece.{Unmarked}
-use Rattle.trivia.proofs.Clear.{unmarked_none, unmarked_more}
 use Rattle.trivia.proofs.comment.starless_end.Given as goal
 
 abbrev pub invariant-loop-i : goal.invariant-loop-i

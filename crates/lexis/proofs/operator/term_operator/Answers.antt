@@ -1,0 +1,18 @@
+-- The first word of the list, behind trivia.
+use native.Mathlib.Omega.{arith}
+use borrow.Author.Rules.{rules}
+use Rattle.reading.specs.Rules.{trivia, term_operator}
+use Rattle.word.specs.Words.{term_operators}
+use Rattle.lexis.proofs.Marks.{placed}
+use Rattle.lexis.proofs.Words.{picked_fits}
+use Rattle.lexis.proofs.operator.term_operator.Goals as goal
+
+pub picked-requires-clause-fitting : goal.picked-requires-clause-fitting
+picked-requires-clause-fitting c = (picked_fits term_operators tt (placed c.requires (omega arith)
+    c.trivia-k.ensures) 48 (omega arith) c.term_operator-p.ensures).1
+
+pub returns : goal.returns
+unfolding term_operator
+returns c =
+    (c.picked.ensures.picks _ term_operators c.term_operator-p.ensures).leafs trivia
+    c.trivia-k.ensures
