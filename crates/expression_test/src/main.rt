@@ -4,9 +4,9 @@
 
 ghost use Rattle.std.specs.Prelude.{◌≡◌, ◌≤◌, ◌<◌, length, IfOk};
 
-use cursor::Cursor;
+use cursor::{Cursor, Read};
 use std::io;
-use std::io::{BufWriter, Read, Write};
+use std::io::{BufWriter, Read as _, Write};
 use table::{Pos, RowIndex};
 
 // The level limit of the listing program.
@@ -135,15 +135,15 @@ fn part(out: &mut impl Write, kind: u8, s: &[u8], low: usize) -> io::Result<()> 
     }
 }
 
-fn show(out: &mut impl Write, r: cursor::Read, rows: &[u32]) -> io::Result<()> {
+fn show(out: &mut impl Write, r: Read, rows: &[u32]) -> io::Result<()> {
     match r {
-        cursor::Read::Got(d) => {
+        Read::Got(d) => {
             print_rows(out, rows, d.count.0)?;
             let end = d.at.0;
             writeln!(out, "end {end}")
         }
-        cursor::Read::Miss(_) => out.write_all(b"miss\n"),
-        cursor::Read::Deep => out.write_all(b"deep\n"),
+        Read::Miss(_) => out.write_all(b"miss\n"),
+        Read::Deep => out.write_all(b"deep\n"),
     }
 }
 
