@@ -136,7 +136,7 @@ fn interpolated_string_factor(s: &[u8], c: Cursor, k: Skip, rows: &mut [u32]) ->
 // The cycle ---------------------------------------------------------------------
 
 // Terms with `+`, `==` and the like between them, folded to the left. `k` is the trivia before it.
-#[cycle(argument_arguments_call_args_call_parens_closed_expression_expression_factor_expression_factor_inner_expression_parens_expression_term_fn_call_next_factor_next_term_others_signed)]
+#[cycle(expression)]
 pub fn expression(s: &[u8], c: Cursor, k: Skip, left: usize, rows: &mut [u32]) -> Read
     requires ready { Ready 0 s.now c }
     requires skips { Skips trivia s.now c.at.0 c.met k }
@@ -194,7 +194,7 @@ pub fn expression(s: &[u8], c: Cursor, k: Skip, left: usize, rows: &mut [u32]) -
 }
 
 // An operator and a term.
-#[cycle(argument_arguments_call_args_call_parens_closed_expression_expression_factor_expression_factor_inner_expression_parens_expression_term_fn_call_next_factor_next_term_others_signed)]
+#[cycle(expression)]
 fn next_term(s: &[u8], c: Cursor, left: usize, rows: &mut [u32]) -> Read
     requires { Ready 0 s.now c }
     ensures { Reads (expression_operator ▸ expression_term) s.now c left rows.old rows.new result }
@@ -208,7 +208,7 @@ fn next_term(s: &[u8], c: Cursor, left: usize, rows: &mut [u32]) -> Read
 }
 
 // Factors with `*` and the like between them, folded to the left.
-#[cycle(argument_arguments_call_args_call_parens_closed_expression_expression_factor_expression_factor_inner_expression_parens_expression_term_fn_call_next_factor_next_term_others_signed)]
+#[cycle(expression)]
 pub fn expression_term(s: &[u8], c: Cursor, k: Skip, left: usize, rows: &mut [u32]) -> Read
     requires ready { Ready 0 s.now c }
     requires skips { Skips trivia s.now c.at.0 c.met k }
@@ -266,7 +266,7 @@ pub fn expression_term(s: &[u8], c: Cursor, k: Skip, left: usize, rows: &mut [u3
 }
 
 // An operator and a factor.
-#[cycle(argument_arguments_call_args_call_parens_closed_expression_expression_factor_expression_factor_inner_expression_parens_expression_term_fn_call_next_factor_next_term_others_signed)]
+#[cycle(expression)]
 fn next_factor(s: &[u8], c: Cursor, left: usize, rows: &mut [u32]) -> Read
     requires { Ready 0 s.now c }
     ensures { Reads (term_operator ▸ expression_factor) s.now c left rows.old rows.new result }
@@ -280,7 +280,7 @@ fn next_factor(s: &[u8], c: Cursor, left: usize, rows: &mut [u32]) -> Read
 }
 
 // A factor. It is tried again, behind signs, only where it does not fit as it is.
-#[cycle(argument_arguments_call_args_call_parens_closed_expression_expression_factor_expression_factor_inner_expression_parens_expression_term_fn_call_next_factor_next_term_others_signed)]
+#[cycle(expression)]
 pub fn expression_factor(s: &[u8], c: Cursor, k: Skip, left: usize, rows: &mut [u32]) -> Read
     requires ready { Ready 0 s.now c }
     requires skips { Skips trivia s.now c.at.0 c.met k }
@@ -314,7 +314,7 @@ pub fn expression_factor(s: &[u8], c: Cursor, k: Skip, left: usize, rows: &mut [
 }
 
 // A factor with `!`, `-` or both in front.
-#[cycle(argument_arguments_call_args_call_parens_closed_expression_expression_factor_expression_factor_inner_expression_parens_expression_term_fn_call_next_factor_next_term_others_signed)]
+#[cycle(expression)]
 fn signed(s: &[u8], c: Cursor, k: Skip, left: usize, rows: &mut [u32]) -> Read
     requires ready { Ready 0 s.now c }
     requires skips { Skips trivia s.now c.at.0 c.met k }
@@ -347,7 +347,7 @@ fn signed(s: &[u8], c: Cursor, k: Skip, left: usize, rows: &mut [u32]) -> Read
 }
 
 // The alternatives in the Rust's order, each behind the trivia `k`. A call skips its own, since its name may come after line ends.
-#[cycle(argument_arguments_call_args_call_parens_closed_expression_expression_factor_expression_factor_inner_expression_parens_expression_term_fn_call_next_factor_next_term_others_signed)]
+#[cycle(expression)]
 fn expression_factor_inner(s: &[u8], c: Cursor, k: Skip, left: usize, rows: &mut [u32]) -> Read
     requires ready { Ready 0 s.now c }
     requires skips { Skips trivia s.now c.at.0 c.met k }
@@ -377,7 +377,7 @@ fn expression_factor_inner(s: &[u8], c: Cursor, k: Skip, left: usize, rows: &mut
 }
 
 // The alternatives behind a number and a call.
-#[cycle(argument_arguments_call_args_call_parens_closed_expression_expression_factor_expression_factor_inner_expression_parens_expression_term_fn_call_next_factor_next_term_others_signed)]
+#[cycle(expression)]
 fn others(s: &[u8], c: Cursor, k: Skip, left: usize, rows: &mut [u32]) -> Read
     requires ready { Ready 0 s.now c }
     requires skips { Skips trivia s.now c.at.0 c.met k }
@@ -427,7 +427,7 @@ fn others(s: &[u8], c: Cursor, k: Skip, left: usize, rows: &mut [u32]) -> Read
 }
 
 // `(`, an expression, `)`.
-#[cycle(argument_arguments_call_args_call_parens_closed_expression_expression_factor_expression_factor_inner_expression_parens_expression_term_fn_call_next_factor_next_term_others_signed)]
+#[cycle(expression)]
 fn expression_parens(s: &[u8], c: Cursor, k: Skip, left: usize, rows: &mut [u32]) -> Read
     requires ready { Ready 0 s.now c }
     requires skips { Skips trivia s.now c.at.0 c.met k }
@@ -448,7 +448,7 @@ fn expression_parens(s: &[u8], c: Cursor, k: Skip, left: usize, rows: &mut [u32]
 }
 
 // An expression and `)`, behind a `(`.
-#[cycle(argument_arguments_call_args_call_parens_closed_expression_expression_factor_expression_factor_inner_expression_parens_expression_term_fn_call_next_factor_next_term_others_signed)]
+#[cycle(expression)]
 fn closed(s: &[u8], c: Cursor, left: usize, rows: &mut [u32]) -> Read
     requires ready { Ready 0 s.now c }
     requires le_at { 1 ≤ c.at.0 }
@@ -463,7 +463,7 @@ fn closed(s: &[u8], c: Cursor, left: usize, rows: &mut [u32]) -> Read
 }
 
 // A name and its parentheses.
-#[cycle(argument_arguments_call_args_call_parens_closed_expression_expression_factor_expression_factor_inner_expression_parens_expression_term_fn_call_next_factor_next_term_others_signed)]
+#[cycle(expression)]
 fn fn_call(s: &[u8], c: Cursor, left: usize, rows: &mut [u32]) -> Read
     requires { Ready 0 s.now c }
     ensures { Reads fn_call s.now c left rows.old rows.new result }
@@ -481,7 +481,7 @@ fn fn_call(s: &[u8], c: Cursor, left: usize, rows: &mut [u32]) -> Read
 }
 
 // `(`, arguments, `)`.
-#[cycle(argument_arguments_call_args_call_parens_closed_expression_expression_factor_expression_factor_inner_expression_parens_expression_term_fn_call_next_factor_next_term_others_signed)]
+#[cycle(expression)]
 pub fn call_parens(s: &[u8], c: Cursor, left: usize, rows: &mut [u32]) -> Read
     requires { Ready 0 s.now c }
     ensures { Reads call_parens s.now c left rows.old rows.new result }
@@ -497,7 +497,7 @@ pub fn call_parens(s: &[u8], c: Cursor, left: usize, rows: &mut [u32]) -> Read
 }
 
 // Arguments, or none, and `)`.
-#[cycle(argument_arguments_call_args_call_parens_closed_expression_expression_factor_expression_factor_inner_expression_parens_expression_term_fn_call_next_factor_next_term_others_signed)]
+#[cycle(expression)]
 fn call_args(s: &[u8], c: Cursor, left: usize, rows: &mut [u32]) -> Read
     requires ready { Ready 0 s.now c }
     requires le_at { 1 ≤ c.at.0 }
@@ -516,7 +516,7 @@ fn call_args(s: &[u8], c: Cursor, left: usize, rows: &mut [u32]) -> Read
 }
 
 // Arguments with commas between them. The last one, which the Rust tries with a comma first, is read once.
-#[cycle(argument_arguments_call_args_call_parens_closed_expression_expression_factor_expression_factor_inner_expression_parens_expression_term_fn_call_next_factor_next_term_others_signed)]
+#[cycle(expression)]
 pub fn arguments(s: &[u8], c: Cursor, left: usize, rows: &mut [u32]) -> Read
     requires ready { Ready 0 s.now c }
     requires le_at { 1 ≤ c.at.0 }
@@ -563,7 +563,7 @@ pub fn arguments(s: &[u8], c: Cursor, left: usize, rows: &mut [u32]) -> Read
 }
 
 // An argument: its row has the argument's places, with its trivia.
-#[cycle(argument_arguments_call_args_call_parens_closed_expression_expression_factor_expression_factor_inner_expression_parens_expression_term_fn_call_next_factor_next_term_others_signed)]
+#[cycle(expression)]
 fn argument(s: &[u8], c: Cursor, left: usize, rows: &mut [u32]) -> Read
     requires ready { Ready 0 s.now c }
     requires le_at { 1 ≤ c.at.0 }

@@ -11,7 +11,7 @@ use cursor::{Cursor, Read, Skip};
 use table::kind;
 
 // `{`, which takes a level, pairs and `}`: a block, and the token around it.
-#[cycle(assigned_config_map_config_value_kvp_kvps_value)]
+#[cycle(config_map)]
 pub fn config_map(s: &[u8], c: Cursor, left: usize, rows: &mut [u32]) -> Read
     requires { Ready 0 s.now c }
     ensures { Reads config_map s.now c left rows.old rows.new result }
@@ -36,7 +36,7 @@ pub fn config_map(s: &[u8], c: Cursor, left: usize, rows: &mut [u32]) -> Read
 }
 
 // Pairs, and the closing brace.
-#[cycle(assigned_config_map_config_value_kvp_kvps_value)]
+#[cycle(config_map)]
 fn kvps(s: &[u8], c: Cursor, left: usize, rows: &mut [u32]) -> Read
     requires { Ready 0 s.now c }
     ensures { Reads (many0 kvp ▸ mchar "}") s.now c left rows.old rows.new result }
@@ -61,7 +61,7 @@ fn kvps(s: &[u8], c: Cursor, left: usize, rows: &mut [u32]) -> Read
 }
 
 // A key, `=` and a value.
-#[cycle(assigned_config_map_config_value_kvp_kvps_value)]
+#[cycle(config_map)]
 pub fn kvp(s: &[u8], c: Cursor, left: usize, rows: &mut [u32]) -> Read
     requires { Ready 0 s.now c }
     ensures { Reads kvp s.now c left rows.old rows.new result }
@@ -101,7 +101,7 @@ fn mchar(s: &[u8], c: Cursor, b: u8, rows: &mut [u32]) -> Read
 }
 
 // `=` and a value.
-#[cycle(assigned_config_map_config_value_kvp_kvps_value)]
+#[cycle(config_map)]
 fn assigned(s: &[u8], c: Cursor, left: usize, rows: &mut [u32]) -> Read
     requires { Ready 0 s.now c }
     ensures { Reads (mchar "=" ▸ mws config_valueᵏ 0 config_value) s.now c left rows.old rows.new result }
@@ -114,7 +114,7 @@ fn assigned(s: &[u8], c: Cursor, left: usize, rows: &mut [u32]) -> Read
 }
 
 // A value with its row.
-#[cycle(assigned_config_map_config_value_kvp_kvps_value)]
+#[cycle(config_map)]
 fn value(s: &[u8], c: Cursor, left: usize, rows: &mut [u32]) -> Read
     requires ready { Ready 0 s.now c }
     requires le_at { 1 ≤ c.at.0 }
@@ -142,7 +142,7 @@ fn value(s: &[u8], c: Cursor, left: usize, rows: &mut [u32]) -> Read
 }
 
 // A map, or an expression.
-#[cycle(assigned_config_map_config_value_kvp_kvps_value)]
+#[cycle(config_map)]
 fn config_value(s: &[u8], c: Cursor, left: usize, rows: &mut [u32]) -> Read
     requires ready { Ready 0 s.now c }
     requires le_at { 1 ≤ c.at.0 }

@@ -1,5 +1,5 @@
 // The reader over a row table, and the top rows of a whole reading, first to last.
-// The borrow checker covers no function over a struct that holds a slice: `new`, `step`, `moved` and `last_subtree` are proved by hand. The work is `table::walk`'s.
+// The work is `table::walk`'s.
 #![tactic(auto)]
 
 ghost use Rattle.std.specs.Prelude.{◌≡◌, ◌++◌, ◌-◌, ◌≤◌, length, take};
@@ -41,7 +41,7 @@ pub fn moved<'a>(r: Reader<'a>, count: usize) -> Reader<'a>
     }
 }
 
-// A step of a reader made here. Its parameters are plain, so every other caller uses this one and is covered.
+// A step of a reader made here.
 pub fn last_subtree(words: &[u32], count: usize) -> Walked
     ensures { told result ≡ walk words.now count }
 {

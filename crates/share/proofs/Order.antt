@@ -129,6 +129,7 @@ module _ (w : List ℕ) where
 
   placed_keeps : (i k : ℕ) (js : List ℕ) → In k js → In k (placed w i js)
   unfolding placed
+  placed_keeps i k [] x = elim x [ ]
   placed_keeps i k (j ∷ js) here = go (ahead w i k)
     where
       go : (b : Bool) → In k (cond b (i ∷ k ∷ js) (k ∷ placed w i js))
@@ -152,11 +153,13 @@ module _ (w : List ℕ) where
   -- What is left out ----------------------------------------------------------
 
   found_in : (j i : ℕ) (js : List ℕ) → All (λ k. ahead w j k ≡ true) js → In i js → ahead w j i ≡ true
+  found_in j i [] a x = elim x [ ]
   found_in j i (k ∷ js) (another h a) here = h
   found_in j i (k ∷ js) (another h a) (there p) = found_in j i js a p
 
   pub out_behind : (m i : ℕ) (js : List ℕ) → Ordered w js → In i js → Out i (take m js) → All (λ j. ahead w j i ≡ true) (take m js)
   out_behind zero i js o p u = nothing
+  out_behind (suc m) i [] o p u = elim p [ ]
   out_behind (suc m) i (j ∷ js) (more a o) here (another n u) = absurd (n refl)
   out_behind (suc m) i (j ∷ js) (more a o) (there p) (another n u) = another (found_in j i js a p) (out_behind m i js o p u)
 

@@ -1,5 +1,5 @@
 -- The tests of the call, in their order, and what is answered when none holds.
-use mathlib.Core.Path.{◌≡◌, sym, ◌∙◌}
+use mathlib.Core.Path.{◌≡◌, ap, sym, ◌∙◌}
 use mathlib.Core.List.{List}
 use mathlib.Core.Option.{none, some}
 use Prim.Native.Nat.{ℕ, ◌≤◌, ◌<◌}
@@ -43,4 +43,7 @@ module _ (w : List ℕ) where
 
       pub all_found : (f : Reduced) (a b : ℕ) (l : Largest) → texts w ≤ i → a ≡ sum (trivia_of w) (texts w) → b ≡ sum (length_of w) (texts w)
           → fraction f ≡ share a b → l ≡ largest_of (largest w) → answered (joined (fraction f) l) ≡ shares w
-      all_found f a b l h p q r s = rw (r, s, p, q) (none_wrong (sym e ∙ rw (le-ltb i (texts w) h)))
+      all_found f a b l h p q r s =
+          let u : fraction f ≡ pooled w = r ∙ ap (λ (k : ℕ). share k b) p ∙ ap (λ (k : ℕ). share (sum (trivia_of w) (texts w)) k) q in
+          ap (λ (x : Fraction). answered (joined x l)) u ∙ ap (λ (y : Largest). answered (joined (pooled w) y)) s
+          ∙ none_wrong (sym e ∙ rw (le-ltb i (texts w) h))

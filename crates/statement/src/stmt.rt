@@ -12,7 +12,7 @@ use cursor::Cursor;
 use state::{Done, State};
 
 // A statement or error text.
-#[cycle(block_body_braced_braces_branches_directive_fourth_import_item_items_label_macro_of_maybe_other_rest_second_statement_third)]
+#[cycle(statement)]
 fn item(
     s: &[u8],
     c: Cursor,
@@ -33,7 +33,7 @@ fn item(
     crate::text::error_in_block(s, c, x, rows, errors)
 }
 
-#[cycle(block_body_braced_braces_branches_directive_fourth_import_item_items_label_macro_of_maybe_other_rest_second_statement_third)]
+#[cycle(statement)]
 fn items(
     s: &[u8],
     c: Cursor,
@@ -88,7 +88,7 @@ fn items(
 }
 
 // A block, its brace behind the trivia that ends at k.
-#[cycle(block_body_braced_braces_branches_directive_fourth_import_item_items_label_macro_of_maybe_other_rest_second_statement_third)]
+#[cycle(statement)]
 fn braced(
     s: &[u8],
     c: Cursor,
@@ -143,7 +143,7 @@ fn braced(
     )
 }
 
-#[cycle(block_body_braced_braces_branches_directive_fourth_import_item_items_label_macro_of_maybe_other_rest_second_statement_third)]
+#[cycle(statement)]
 fn block(
     s: &[u8],
     c: Cursor,
@@ -162,7 +162,7 @@ fn block(
 }
 
 // A block or nothing.
-#[cycle(block_body_braced_braces_branches_directive_fourth_import_item_items_label_macro_of_maybe_other_rest_second_statement_third)]
+#[cycle(statement)]
 fn maybe(
     s: &[u8],
     c: Cursor,
@@ -192,7 +192,7 @@ fn maybe(
 }
 
 // `else` and its block.
-#[cycle(block_body_braced_braces_branches_directive_fourth_import_item_items_label_macro_of_maybe_other_rest_second_statement_third)]
+#[cycle(statement)]
 fn other(
     s: &[u8],
     c: Cursor,
@@ -213,7 +213,7 @@ fn other(
 }
 
 // The branches of an if.
-#[cycle(block_body_braced_braces_branches_directive_fourth_import_item_items_label_macro_of_maybe_other_rest_second_statement_third)]
+#[cycle(statement)]
 fn branches(
     s: &[u8],
     c: Cursor,
@@ -246,7 +246,7 @@ fn branches(
     )
 }
 
-#[cycle(block_body_braced_braces_branches_directive_fourth_import_item_items_label_macro_of_maybe_other_rest_second_statement_third)]
+#[cycle(statement)]
 fn body(
     s: &[u8],
     c: Cursor,
@@ -268,7 +268,7 @@ fn body(
 }
 
 // The rest of a statement whose head has answered h: what stands behind it, and the row around all.
-#[cycle(block_body_braced_braces_branches_directive_fourth_import_item_items_label_macro_of_maybe_other_rest_second_statement_third)]
+#[cycle(statement)]
 fn rest(
     s: &[u8],
     c: Cursor,
@@ -297,7 +297,7 @@ fn rest(
 }
 
 // A statement of a directive and an expression.
-#[cycle(block_body_braced_braces_branches_directive_fourth_import_item_items_label_macro_of_maybe_other_rest_second_statement_third)]
+#[cycle(statement)]
 fn directive(
     s: &[u8],
     c: Cursor,
@@ -320,7 +320,7 @@ fn directive(
     rest(s, c, k, h, b, kind, scope, left, rows, errors, requests)
 }
 
-#[cycle(block_body_braced_braces_branches_directive_fourth_import_item_items_label_macro_of_maybe_other_rest_second_statement_third)]
+#[cycle(statement)]
 fn braces(
     s: &[u8],
     c: Cursor,
@@ -342,7 +342,7 @@ fn braces(
     crate::row::close(c, k, d, x, table::kind::BRACES, true, rows)
 }
 
-#[cycle(block_body_braced_braces_branches_directive_fourth_import_item_items_label_macro_of_maybe_other_rest_second_statement_third)]
+#[cycle(statement)]
 fn label(
     s: &[u8],
     c: Cursor,
@@ -373,7 +373,7 @@ fn label(
     )
 }
 
-#[cycle(block_body_braced_braces_branches_directive_fourth_import_item_items_label_macro_of_maybe_other_rest_second_statement_third)]
+#[cycle(statement)]
 fn macro_of(
     s: &[u8],
     c: Cursor,
@@ -404,7 +404,7 @@ fn macro_of(
     )
 }
 
-#[cycle(block_body_braced_braces_branches_directive_fourth_import_item_items_label_macro_of_maybe_other_rest_second_statement_third)]
+#[cycle(statement)]
 fn import(
     s: &[u8],
     c: Cursor,
@@ -439,7 +439,7 @@ fn import(
 }
 
 // The alternatives from .import on.
-#[cycle(block_body_braced_braces_branches_directive_fourth_import_item_items_label_macro_of_maybe_other_rest_second_statement_third)]
+#[cycle(statement)]
 fn fourth(
     s: &[u8],
     c: Cursor,
@@ -483,7 +483,7 @@ fn fourth(
 }
 
 // From .loop on.
-#[cycle(block_body_braced_braces_branches_directive_fourth_import_item_items_label_macro_of_maybe_other_rest_second_statement_third)]
+#[cycle(statement)]
 fn third(
     s: &[u8],
     c: Cursor,
@@ -540,7 +540,7 @@ fn third(
 }
 
 // From .macro on.
-#[cycle(block_body_braced_braces_branches_directive_fourth_import_item_items_label_macro_of_maybe_other_rest_second_statement_third)]
+#[cycle(statement)]
 fn second(
     s: &[u8],
     c: Cursor,
@@ -584,7 +584,7 @@ fn second(
 }
 
 // One of the twenty statements. The trivia before it is read once.
-#[cycle(block_body_braced_braces_branches_directive_fourth_import_item_items_label_macro_of_maybe_other_rest_second_statement_third)]
+#[cycle(statement)]
 pub fn statement(
     s: &[u8],
     c: Cursor,

@@ -1,0 +1,8 @@
+-- Letters, digits and `-` are what a key is made of.
+use Rattle.reading.specs.Rules.{multiline_trivia, config_key}
+use borrow.Author.Rules.{rules}
+use Rattle.operand.proofs.config_map.config_key.Goals as goal
+
+pub returns : goal.returns
+unfolding config_key
+returns c = c.name.ensures.leafs multiline_trivia c.requires.skips
