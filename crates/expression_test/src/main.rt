@@ -2,32 +2,39 @@
 // place where it begins in two decimal digits, and the text in hexadecimal digits. The expected output is what the Rust gives.
 #![tactic(auto)]
 
-ghost use Rattle.std.specs.Prelude.{◌≡◌, ◌≤◌, ◌<◌, length};
+ghost use Rattle.std.specs.Prelude.{◌≡◌, ◌≤◌, ◌<◌, length, IfOk};
 
 use cursor::{Cursor, Read};
-use libc::{STDIN_FILENO, STDOUT_FILENO};
+use std::io;
+use std::io::{BufWriter, Read as _, Write};
 use table::{Pos, RowIndex};
 
 // The level limit of the listing program.
 const LEVELS: usize = 32;
 
-fn main() {
-    let mut input = io::large_buffer();
-    let n = io::read_full(STDIN_FILENO, &mut input);
-    cases(&input[..n]);
+// The longest input; what lies behind it is not read.
+const LONGEST: u64 = 65536;
+
+fn main(rt: HostRuntime) -> io::Result<()> {
+    let mut out = BufWriter::new(rt.alloc(), io::writer(&rt))?;
+    let mut input = Vec::new(rt.alloc());
+    rt.reader().take(LONGEST).read_to_end(&mut input)?;
+    cases(&mut out, &input)?;
+    out.flush()
 }
 
-fn cases(input: &[u8]) {
+fn cases(out: &mut impl Write, input: &[u8]) -> io::Result<()> {
     let mut at: usize = 0;
     while at < input.len() {
-        at = case(input, at);
+        at = case(out, input, at)?;
     }
+    Ok(())
 }
 
 // One line; the place behind it.
-fn case(input: &[u8], at: usize) -> usize
+fn case(out: &mut impl Write, input: &[u8], at: usize) -> io::Result<usize>
     requires { at < length input.now }
-    ensures { at < result }
+    ensures { IfOk result (λ next. at < next) }
 {
     let mut text = [0u8; 256];
     let end = line_end(input, at);
@@ -42,8 +49,8 @@ fn case(input: &[u8], at: usize) -> usize
         text[n] = digit(input, at, i) * 16 + digit(input, at, i + 1);
         n += 1;
     }
-    part(kind, &text[..n], low);
-    end + 1
+    part(out, kind, &text[..n], low)?;
+    Ok(end + 1)
 }
 
 // The line feed that ends the line, or the end of the input.
@@ -98,12 +105,12 @@ fn wide(x: u32) -> u64 {
 }
 
 // Reads the part that begins at a place.
-fn part(kind: u8, s: &[u8], low: usize) {
+fn part(out: &mut impl Write, kind: u8, s: &[u8], low: usize) -> io::Result<()> {
     if s.len() < low {
-        return;
+        return Ok(());
     }
     if reading::MAX_TEXT < s.len() {
-        return;
+        return Ok(());
     }
     let mut rows = [0u32; 256 * table::ROW];
     let c = Cursor {
@@ -115,57 +122,53 @@ fn part(kind: u8, s: &[u8], low: usize) {
     match kind {
         b'e' => {
             let r = expression::expression(s, c, k, LEVELS, &mut rows);
-            show(r, &rows);
+            show(out, r, &rows)
         }
         b'o' => {
             let r = operand::operand(s, c, k, LEVELS, &mut rows);
-            show(r, &rows);
+            show(out, r, &rows)
         }
         _ => {
             let r = operand::config_map::config_map(s, c, LEVELS, &mut rows);
-            show(r, &rows);
+            show(out, r, &rows)
         }
     }
 }
 
-fn show(r: Read, rows: &[u32]) {
+fn show(out: &mut impl Write, r: Read, rows: &[u32]) -> io::Result<()> {
     match r {
         Read::Got(d) => {
-            print_rows(rows, d.count.0);
-            io::write_all(STDOUT_FILENO, b"end ");
-            io::print_decimal(STDOUT_FILENO, d.at.0 as u64);
-            io::write_all(STDOUT_FILENO, b"\n");
+            print_rows(out, rows, d.count.0)?;
+            let end = d.at.0;
+            writeln!(out, "end {end}")
         }
-        Read::Miss(_) => {
-            io::write_all(STDOUT_FILENO, b"miss\n");
-        }
-        Read::Deep => {
-            io::write_all(STDOUT_FILENO, b"deep\n");
-        }
+        Read::Miss(_) => out.write_all(b"miss\n"),
+        Read::Deep => out.write_all(b"deep\n"),
     }
 }
 
 // So many rows, or as many as the table holds.
-fn print_rows(rows: &[u32], n: usize) {
+fn print_rows(out: &mut impl Write, rows: &[u32], n: usize) -> io::Result<()> {
     let mut i: usize = 0;
     while i < rows.len() {
         if n <= i / table::ROW {
-            return;
+            return Ok(());
         }
-        print_word(wide(rows[i]), i % table::ROW);
+        print_word(out, wide(rows[i]), i % table::ROW)?;
         i += 1;
     }
+    Ok(())
 }
 
 // A word of a row. The line is left out: it is filled in by the reader of a file alone.
-fn print_word(x: u64, column: usize) {
+fn print_word(out: &mut impl Write, x: u64, column: usize) -> io::Result<()> {
     if column == table::column::LINE {
-        return;
+        return Ok(());
     }
-    io::print_decimal(STDOUT_FILENO, x);
+    write!(out, "{x}")?;
     if column == table::column::DETAIL {
-        io::write_all(STDOUT_FILENO, b"\n");
+        out.write_all(b"\n")
     } else {
-        io::write_all(STDOUT_FILENO, b" ");
+        out.write_all(b" ")
     }
 }

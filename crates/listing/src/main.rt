@@ -3,67 +3,71 @@
 
 ghost use Rattle.std.specs.Prelude.{◌<◌};
 
-use libc::{STDIN_FILENO, STDOUT_FILENO};
 use parser::{Answer, Reading};
+use std::io;
+use std::io::{BufWriter, Read, Write};
 
 // The longest input; one byte more is read, to see that there is more.
 const LONGEST: usize = 8192;
 
-fn main() {
-    let mut text = [0u8; 8193];
-    let n = io::read_full(STDIN_FILENO, &mut text);
-    if LONGEST < n {
-        output::refused(1, LONGEST);
-        return;
+fn main(rt: HostRuntime) -> io::Result<()> {
+    let mut out = BufWriter::new(rt.alloc(), io::writer(&rt))?;
+    let mut text = Vec::new(rt.alloc());
+    rt.reader().take(8193).read_to_end(&mut text)?;
+    if LONGEST < text.len() {
+        output::refused(&mut out, 1, LONGEST)?;
+    } else {
+        listing(&mut out, &text)?;
     }
-    listing(&text[..n]);
+    out.flush()
 }
 
 // Room for 2,048 rows, 64 errors and 64 requests; level 32; from scope 0 with the flag clear.
-fn listing(text: &[u8]) {
+fn listing(out: &mut impl Write, text: &[u8]) -> io::Result<()> {
     let mut rows = [0u32; 2048 * table::ROW];
     let mut errors = [0u32; 64 * table::ERROR];
     let mut requests = [0u32; 64 * table::REQUEST];
     let r = parser::read(text, 0, false, 32, &mut rows, &mut errors, &mut requests);
     let Answer::Read(x) = r else {
-        output::not_read(r);
-        return;
+        return output::not_read(out, r);
     };
-    io::write_all(STDOUT_FILENO, b"kind size tlow low high detail line\n");
-    records(&rows, x.rows, table::ROW);
-    io::write_all(STDOUT_FILENO, b"error low high\n");
-    records(&errors, x.errors, table::ERROR);
-    io::write_all(STDOUT_FILENO, b"request low high\n");
-    records(&requests, x.requests, table::REQUEST);
-    end(x);
+    out.write_all(b"kind size tlow low high detail line\n")?;
+    records(out, &rows, x.rows, table::ROW)?;
+    out.write_all(b"error low high\n")?;
+    records(out, &errors, x.errors, table::ERROR)?;
+    out.write_all(b"request low high\n")?;
+    records(out, &requests, x.requests, table::REQUEST)?;
+    end(out, x)
 }
 
-fn end(x: Reading) {
-    output::number(b"scope swallow\n", x.scope);
+fn end(out: &mut impl Write, x: Reading) -> io::Result<()> {
+    output::number(out, b"scope swallow\n", x.scope)?;
     if x.swallow {
-        io::write_all(STDOUT_FILENO, b" 1\n");
+        out.write_all(b" 1\n")
     } else {
-        io::write_all(STDOUT_FILENO, b" 0\n");
+        out.write_all(b" 0\n")
     }
 }
 
 // So many records of this width, a line each.
-fn records(words: &[u32], n: usize, width: usize)
+fn records(out: &mut impl Write, words: &[u32], n: usize, width: usize) -> io::Result<()>
     requires { 0 < width }
 {
     let mut i: usize = 0;
     while i < words.len() {
         if n <= i / width {
-            return;
+            return Ok(());
         }
-        io::print_decimal(STDOUT_FILENO, wide(words[i]));
+        let x = wide(words[i]);
+        write!(out, "{x}")?;
         if i % width == width - 1 {
-            io::write_all(STDOUT_FILENO, b"\n");
+            out.write_all(b"\n")?;
         } else {
-            io::write_all(STDOUT_FILENO, b" ");
+            out.write_all(b" ")?;
         }
         i += 1;
     }
+    Ok(())
 }
 
 fn wide(x: u32) -> u64 {

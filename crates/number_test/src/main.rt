@@ -5,12 +5,16 @@
 
 ghost use Rattle.std.specs.Prelude.{◌<◌, ◌≤◌, length};
 
-use libc::STDIN_FILENO;
 use number::{Typed, Valued};
 use output::Tally;
 use parser::Answer;
+use std::io;
+use std::io::{BufWriter, Read, Write};
 use std::num::wrapping_add_usize;
 use table::{ERROR, REQUEST, ROW, column, kind};
+
+// The longest input; what lies behind it is not read.
+const LONGEST: u64 = 65536;
 
 // So many bytes stand before a text, and so many behind it.
 const MARGIN: usize = 32;
@@ -29,32 +33,42 @@ struct Expected {
     next: usize,
 }
 
-fn main() {
-    let mut input = io::large_buffer();
+fn main(rt: HostRuntime) -> io::Result<()> {
+    let mut out = BufWriter::new(rt.alloc(), io::writer(&rt))?;
+    let mut input = Vec::new(rt.alloc());
     let mut text = [0u8; 262144];
-    let n = io::read_full(STDIN_FILENO, &mut input);
-    lines(&input[..n], &mut text);
+    rt.reader().take(LONGEST).read_to_end(&mut input)?;
+    lines(&mut out, &input, &mut text)?;
+    out.flush()
 }
 
-fn lines(input: &[u8], text: &mut [u8]) {
+fn lines(out: &mut impl Write, input: &[u8], text: &mut [u8]) -> io::Result<()> {
     let mut tally = output::no_cases();
     let mut at: usize = 0;
     while at < input.len() {
         let next = fields::behind(input, at, b'\n');
-        tally = line(input, at, next, text, tally);
+        tally = line(out, input, at, next, text, tally)?;
         at = next;
     }
+    Ok(())
 }
 
 // A case; or the name of the cases before it, behind a `#`.
-fn line(input: &[u8], at: usize, next: usize, text: &mut [u8], tally: Tally) -> Tally
+fn line(
+    out: &mut impl Write,
+    input: &[u8],
+    at: usize,
+    next: usize,
+    text: &mut [u8],
+    tally: Tally,
+) -> io::Result<Tally>
     requires { (at < next) × (next ≤ length input.now) }
 {
     if input[at] == b'#' {
-        return output::named(tally, &input[at + 1..next]);
+        return output::named(out, tally, &input[at + 1..next]);
     }
     let same = case(input, at, next, text);
-    output::counted(tally, at, same)
+    output::counted(out, tally, at, same)
 }
 
 // Between bytes that are digits in every base, and between bytes that are digits in none.

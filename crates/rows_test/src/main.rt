@@ -1,95 +1,101 @@
 // Reads a pass table from standard input and prints its top rows, first to last, as the import loop walks them. Then what such a walk refuses.
 #![tactic(auto)]
 
-use libc::{STDIN_FILENO, STDOUT_FILENO};
 use parser::Answer;
 use rows::TopsAnswer;
+use std::io;
+use std::io::{BufWriter, Read, Write};
 use table::{ERROR, REQUEST, ROW, column};
 
-fn main() {
-    let mut text = [0u8; 4096];
-    let n = io::read_full(STDIN_FILENO, &mut text);
-    read(&text[..n]);
+// The longest input; what lies behind it is not read.
+const LONGEST: u64 = 4096;
+
+fn main(rt: HostRuntime) -> io::Result<()> {
+    let mut out = BufWriter::new(rt.alloc(), io::writer(&rt))?;
+    let mut text = Vec::new(rt.alloc());
+    rt.reader().take(LONGEST).read_to_end(&mut text)?;
+    read(&mut out, &text)?;
+    out.flush()
 }
 
-fn read(text: &[u8]) {
+fn read(out: &mut impl Write, text: &[u8]) -> io::Result<()> {
     let mut words = [0u32; 512 * ROW];
     let mut errors = [0u32; 8 * ERROR];
     let mut requests = [0u32; 8 * REQUEST];
     let r = parser::read(text, 0, false, 32, &mut words, &mut errors, &mut requests);
     let Answer::Read(x) = r else {
-        io::write_all(STDOUT_FILENO, b"no reading\n");
-        return;
+        return out.write_all(b"no reading\n");
     };
-    whole(&words, x.rows);
-    refusals(&words, x.rows);
+    whole(out, &words, x.rows)?;
+    refusals(out, &words, x.rows)
 }
 
 // A line for each top row.
-fn whole(words: &[u32], count: usize) {
+fn whole(out: &mut impl Write, words: &[u32], count: usize) -> io::Result<()> {
     let mut roots = [0usize; 512];
     let r = rows::tops(words, count, &mut roots);
     match r {
-        TopsAnswer::Count(n) => lines(words, &roots, n),
-        TopsAnswer::NoSubtree(at) => refused(13, at),
-        TopsAnswer::NoRoom(n) => refused(6, n),
+        TopsAnswer::Count(n) => lines(out, words, &roots, n),
+        TopsAnswer::NoSubtree(at) => refused(out, 13, at),
+        TopsAnswer::NoRoom(n) => refused(out, 6, n),
     }
 }
 
-fn lines(words: &[u32], roots: &[usize], n: usize) {
+fn lines(out: &mut impl Write, words: &[u32], roots: &[usize], n: usize) -> io::Result<()> {
     let mut i: usize = 0;
     while i < roots.len() {
         if n <= i {
-            return;
+            return Ok(());
         }
-        output::number(b"row ", i + 1);
-        line(words, roots[i]);
+        output::number(out, b"row ", i + 1)?;
+        line(out, words, roots[i])?;
         i += 1;
     }
+    Ok(())
 }
 
-fn line(words: &[u32], root: usize) {
+fn line(out: &mut impl Write, words: &[u32], root: usize) -> io::Result<()> {
     if words.len() / ROW <= root {
-        return;
+        return Ok(());
     }
     let i = root * ROW;
-    output::number(b": kind ", wide(words[i + column::KIND]));
-    output::number(b", bytes ", wide(words[i + column::LOW]));
-    output::number(b"..", wide(words[i + column::HIGH]));
-    output::number(b", rows ", wide(words[i + column::SIZE]));
-    io::write_all(STDOUT_FILENO, b"\n");
+    output::number(out, b": kind ", wide(words[i + column::KIND]))?;
+    output::number(out, b", bytes ", wide(words[i + column::LOW]))?;
+    output::number(out, b"..", wide(words[i + column::HIGH]))?;
+    output::number(out, b", rows ", wide(words[i + column::SIZE]))?;
+    out.write_all(b"\n")
 }
 
 // Into three words that are not zero: too many top rows, too many rows, none, two top rows, and a count inside the second one.
-fn refusals(words: &[u32], count: usize) {
-    show(b"all", words, count);
+fn refusals(out: &mut impl Write, words: &[u32], count: usize) -> io::Result<()> {
+    show(out, b"all", words, count)?;
     if count < 512 {
-        show(b"one more", words, count + 1);
+        show(out, b"one more", words, count + 1)?;
     }
-    show(b"513", words, 513);
-    show(b"none", words, 0);
-    show(b"eleven", words, 11);
-    show(b"ten", words, 10);
+    show(out, b"513", words, 513)?;
+    show(out, b"none", words, 0)?;
+    show(out, b"eleven", words, 11)?;
+    show(out, b"ten", words, 10)
 }
 
-fn show(label: &[u8], words: &[u32], count: usize) {
+fn show(out: &mut impl Write, label: &[u8], words: &[u32], count: usize) -> io::Result<()> {
     let mut roots = [9usize; 3];
-    io::write_all(STDOUT_FILENO, label);
+    out.write_all(label)?;
     let r = rows::tops(words, count, &mut roots);
     match r {
-        TopsAnswer::Count(n) => output::number(b": ", n),
-        TopsAnswer::NoSubtree(at) => refused(13, at),
-        TopsAnswer::NoRoom(n) => refused(6, n),
-    }
-    output::number(b", words ", roots[0]);
-    output::number(b" ", roots[1]);
-    output::number(b" ", roots[2]);
-    io::write_all(STDOUT_FILENO, b"\n");
+        TopsAnswer::Count(n) => output::number(out, b": ", n),
+        TopsAnswer::NoSubtree(at) => refused(out, 13, at),
+        TopsAnswer::NoRoom(n) => refused(out, 6, n),
+    }?;
+    output::number(out, b", words ", roots[0])?;
+    output::number(out, b" ", roots[1])?;
+    output::number(out, b" ", roots[2])?;
+    out.write_all(b"\n")
 }
 
-fn refused(code: usize, gives: usize) {
-    output::number(b": refused ", code);
-    output::number(b" ", gives);
+fn refused(out: &mut impl Write, code: usize, gives: usize) -> io::Result<()> {
+    output::number(out, b": refused ", code)?;
+    output::number(out, b" ", gives)
 }
 
 fn wide(x: u32) -> usize {

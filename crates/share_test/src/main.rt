@@ -5,12 +5,16 @@
 
 ghost use Rattle.std.specs.Prelude.{◌≤◌, ◌<◌, length};
 
-use libc::STDIN_FILENO;
 use output::Tally;
 use parser::Answer;
 use rows::Counted;
 use share::{SharesAnswer, TextAnswer};
+use std::io;
+use std::io::{BufWriter, Read, Write};
 use table::{ERROR, REQUEST, ROW};
+
+// The longest input; what lies behind it is not read.
+const LONGEST: u64 = 65536;
 
 // The outcome that is expected of a list, how many words it has, and the place of its texts.
 #[derive(Clone, Copy)]
@@ -27,31 +31,40 @@ struct Expected {
     next: usize,
 }
 
-fn main() {
-    let mut input = io::large_buffer();
-    let n = io::read_full(STDIN_FILENO, &mut input);
-    lines(&input[..n]);
+fn main(rt: HostRuntime) -> io::Result<()> {
+    let mut out = BufWriter::new(rt.alloc(), io::writer(&rt))?;
+    let mut input = Vec::new(rt.alloc());
+    rt.reader().take(LONGEST).read_to_end(&mut input)?;
+    lines(&mut out, &input)?;
+    out.flush()
 }
 
-fn lines(input: &[u8]) {
+fn lines(out: &mut impl Write, input: &[u8]) -> io::Result<()> {
     let mut tally = output::no_cases();
     let mut at: usize = 0;
     while at < input.len() {
         let next = fields::behind(input, at, b'\n');
-        tally = line(input, at, next, tally);
+        tally = line(out, input, at, next, tally)?;
         at = next;
     }
+    Ok(())
 }
 
 // A case; or the name of the cases before it, behind a `#`.
-fn line(input: &[u8], at: usize, next: usize, tally: Tally) -> Tally
+fn line(
+    out: &mut impl Write,
+    input: &[u8],
+    at: usize,
+    next: usize,
+    tally: Tally,
+) -> io::Result<Tally>
     requires { (at < next) × (next ≤ length input.now) }
 {
     if input[at] == b'#' {
-        return output::named(tally, &input[at + 1..next]);
+        return output::named(out, tally, &input[at + 1..next]);
     }
     let same = case(input, at, next);
-    output::counted(tally, at, same)
+    output::counted(out, tally, at, same)
 }
 
 // A list of texts is 0, a text is 1.

@@ -1,7 +1,8 @@
 // Walks row tables picked by hand with table::walk, and prints each answer.
 #![tactic(auto)]
 
-use libc::STDOUT_FILENO;
+use std::io;
+use std::io::{BufWriter, Write};
 use table::Walked;
 
 // The rows of `lda #1` and LF.
@@ -11,71 +12,67 @@ const ROWS: [u32; 63] = [
     7, 0, 2,
 ];
 
-fn main() {
-    whole();
-    inside();
-    limits();
-    damaged();
+fn main(rt: HostRuntime) -> io::Result<()> {
+    let mut out = BufWriter::new(rt.alloc(), io::writer(&rt))?;
+    whole(&mut out)?;
+    inside(&mut out)?;
+    limits(&mut out)?;
+    damaged(&mut out)?;
+    out.flush()
 }
 
 // From the last row to the first: the Eof, the instruction, and no more.
-fn whole() {
+fn whole(out: &mut impl Write) -> io::Result<()> {
     let rows = ROWS;
-    show(b"nine rows", &rows, 9);
-    show(b"eight", &rows, 8);
-    show(b"none", &rows, 0);
+    show(out, b"nine rows", &rows, 9)?;
+    show(out, b"eight", &rows, 8)?;
+    show(out, b"none", &rows, 0)
 }
 
 // A count inside a subtree gives the subtree that ends there.
-fn inside() {
+fn inside(out: &mut impl Write) -> io::Result<()> {
     let rows = ROWS;
-    show(b"seven", &rows, 7);
-    show(b"six", &rows, 6);
-    show(b"one", &rows, 1);
+    show(out, b"seven", &rows, 7)?;
+    show(out, b"six", &rows, 6)?;
+    show(out, b"one", &rows, 1)
 }
 
 // A table holds its length divided by 7 rows, rounded down.
-fn limits() {
+fn limits(out: &mut impl Write) -> io::Result<()> {
     let rows = ROWS;
-    show(b"ten of nine", &rows, 10);
-    show(b"nine, one word short", &rows[..62], 9);
-    show(b"eight, one word short", &rows[..62], 8);
-    show(b"nine, no table", &rows[..0], 9);
-    show(b"one, six words", &rows[..6], 1);
-    show(b"one, seven words", &rows[..7], 1);
-    show(b"the largest count", &rows, 18446744073709551615);
+    show(out, b"ten of nine", &rows, 10)?;
+    show(out, b"nine, one word short", &rows[..62], 9)?;
+    show(out, b"eight, one word short", &rows[..62], 8)?;
+    show(out, b"nine, no table", &rows[..0], 9)?;
+    show(out, b"one, six words", &rows[..6], 1)?;
+    show(out, b"one, seven words", &rows[..7], 1)?;
+    show(out, b"the largest count", &rows, 18446744073709551615)
 }
 
 // Only the root's size is looked at.
-fn damaged() {
+fn damaged(out: &mut impl Write) -> io::Result<()> {
     let mut rows = ROWS;
     rows[57] = 0;
-    show(b"size 0", &rows, 9);
+    show(out, b"size 0", &rows, 9)?;
     rows[57] = 9;
-    show(b"size 9 of nine", &rows, 9);
+    show(out, b"size 9 of nine", &rows, 9)?;
     rows[57] = 10;
-    show(b"size 10 of nine", &rows, 9);
+    show(out, b"size 10 of nine", &rows, 9)?;
     rows[57] = 4294967295;
-    show(b"the largest size", &rows, 9);
+    show(out, b"the largest size", &rows, 9)?;
     rows[56] = 4294967295;
     rows[57] = 2;
     rows[50] = 0;
-    show(b"another kind, a damaged row below", &rows, 9);
+    show(out, b"another kind, a damaged row below", &rows, 9)
 }
 
-fn show(label: &[u8], rows: &[u32], count: usize) {
-    io::write_all(STDOUT_FILENO, label);
+fn show(out: &mut impl Write, label: &[u8], rows: &[u32], count: usize) -> io::Result<()> {
+    out.write_all(label)?;
     match table::walk(rows, count) {
         Walked::Subtree(root, before) => {
-            io::write_all(STDOUT_FILENO, b": root ");
-            io::print_decimal(STDOUT_FILENO, root.0 as u64);
-            io::write_all(STDOUT_FILENO, b", before ");
-            io::print_decimal(STDOUT_FILENO, before as u64);
+            let root = root.0;
+            writeln!(out, ": root {root}, before {before}")
         }
-        Walked::NoSubtree(n) => {
-            io::write_all(STDOUT_FILENO, b": refused 13 ");
-            io::print_decimal(STDOUT_FILENO, n as u64);
-        }
+        Walked::NoSubtree(n) => writeln!(out, ": refused 13 {n}"),
     }
-    io::write_all(STDOUT_FILENO, b"\n");
 }

@@ -1,141 +1,147 @@
 // Runs trivia::items on texts and tables picked by hand, and prints each answer and the whole table. A table is sevens before the call.
 #![tactic(auto)]
 
-use libc::STDOUT_FILENO;
+use std::io;
+use std::io::{BufWriter, Write};
 use trivia::ItemsAnswer;
 
-fn main() {
-    one_line();
-    line_ends();
-    comments();
-    marks();
-    several();
-    lone_returns();
-    no_items();
-    no_room();
-    rooms();
-    high_bytes();
-    lengths();
+fn main(rt: HostRuntime) -> io::Result<()> {
+    let mut out = BufWriter::new(rt.alloc(), io::writer(&rt))?;
+    one_line(&mut out)?;
+    line_ends(&mut out)?;
+    comments(&mut out)?;
+    marks(&mut out)?;
+    several(&mut out)?;
+    lone_returns(&mut out)?;
+    no_items(&mut out)?;
+    no_room(&mut out)?;
+    rooms(&mut out)?;
+    high_bytes(&mut out)?;
+    lengths(&mut out)?;
+    out.flush()
 }
 
-fn one_line() {
-    six(b"empty", b"");
-    six(b"blanks", b" \t ");
-    six(b"block comment", b"/* a */");
-    six(b"line comment", b"// a");
-    six(b"open comment", b"/* a");
+fn one_line(out: &mut impl Write) -> io::Result<()> {
+    six(out, b"empty", b"")?;
+    six(out, b"blanks", b" \t ")?;
+    six(out, b"block comment", b"/* a */")?;
+    six(out, b"line comment", b"// a")?;
+    six(out, b"open comment", b"/* a")
 }
 
-fn line_ends() {
-    six(b"LF", b"\n");
-    six(b"CRLF", b"\r\n");
-    six(b"two", b"\n\r\n");
-    six(b"behind a line comment", b"//a\r\n");
+fn line_ends(out: &mut impl Write) -> io::Result<()> {
+    six(out, b"LF", b"\n")?;
+    six(out, b"CRLF", b"\r\n")?;
+    six(out, b"two", b"\n\r\n")?;
+    six(out, b"behind a line comment", b"//a\r\n")
 }
 
-fn comments() {
-    six(b"nested", b"/*/**/*/");
-    six(b"nested, open", b"/*/**/");
-    six(b"one behind the other", b"/**//**/");
-    six(b"open behind a blank", b" /*");
+fn comments(out: &mut impl Write) -> io::Result<()> {
+    six(out, b"nested", b"/*/**/*/")?;
+    six(out, b"nested, open", b"/*/**/")?;
+    six(out, b"one behind the other", b"/**//**/")?;
+    six(out, b"open behind a blank", b" /*")
 }
 
-fn marks() {
-    six(b"marks share no byte", b"/*/");
-    six(b"marks share no byte, nested", b"/*/*/");
-    six(b"stars", b"/***/");
-    six(b"a line comment holds marks", b"///* */");
+fn marks(out: &mut impl Write) -> io::Result<()> {
+    six(out, b"marks share no byte", b"/*/")?;
+    six(out, b"marks share no byte, nested", b"/*/*/")?;
+    six(out, b"stars", b"/***/")?;
+    six(out, b"a line comment holds marks", b"///* */")
 }
 
-fn several() {
-    six(b"all", b"\r\n\n  // x\r\n/**//*");
+fn several(out: &mut impl Write) -> io::Result<()> {
+    six(out, b"all", b"\r\n\n  // x\r\n/**//*")?;
     let mut table = [7u32; 21];
-    show(b"all, with room", b"\r\n\n  // x\r\n/**//*", &mut table);
+    show(
+        out,
+        b"all, with room",
+        b"\r\n\n  // x\r\n/**//*",
+        &mut table,
+    )
 }
 
-fn lone_returns() {
-    six(b"CR alone", b"\r");
-    six(b"CR behind a line comment", b"// a\r");
+fn lone_returns(out: &mut impl Write) -> io::Result<()> {
+    six(out, b"CR alone", b"\r")?;
+    six(out, b"CR behind a line comment", b"// a\r")
 }
 
-fn no_items() {
-    six(b"// at the end", b" //");
-    six(b"// and LF", b"//\n");
-    six(b"slash", b" / ");
-    six(b"letter", b"nop");
-    six(b"letter behind a comment", b"/**/x");
+fn no_items(out: &mut impl Write) -> io::Result<()> {
+    six(out, b"// at the end", b" //")?;
+    six(out, b"// and LF", b"//\n")?;
+    six(out, b"slash", b" / ")?;
+    six(out, b"letter", b"nop")?;
+    six(out, b"letter behind a comment", b"/**/x")
 }
 
-fn no_room() {
+fn no_room(out: &mut impl Write) -> io::Result<()> {
     let mut none = [7u32; 0];
-    show(b"no room needed", b"", &mut none);
-    show(b"no room, no item either", b" x", &mut none);
-    show(b"no room", b" ", &mut none);
+    show(out, b"no room needed", b"", &mut none)?;
+    show(out, b"no room, no item either", b" x", &mut none)?;
+    show(out, b"no room", b" ", &mut none)
 }
 
-fn rooms() {
+fn rooms(out: &mut impl Write) -> io::Result<()> {
     let mut short = [7u32; 5];
-    show(b"room for one of two", b" \n", &mut short);
+    show(out, b"room for one of two", b" \n", &mut short)?;
     let mut enough = [7u32; 6];
-    show(b"room for two", b" \n", &mut enough);
+    show(out, b"room for two", b" \n", &mut enough)?;
     let mut odd = [7u32; 8];
-    show(b"two words more", b" \n", &mut odd);
+    show(out, b"two words more", b" \n", &mut odd)?;
     let mut more = [7u32; 10];
-    show(b"room for three", b" \n", &mut more);
+    show(out, b"room for three", b" \n", &mut more)
 }
 
-fn high_bytes() {
-    six(b"byte 128", b" \x80 ");
-    six(b"byte 255 in a comment", b"/* \xff");
-    six(b"byte 128 behind what starts no item", b"x\x80");
+fn high_bytes(out: &mut impl Write) -> io::Result<()> {
+    six(out, b"byte 128", b" \x80 ")?;
+    six(out, b"byte 255 in a comment", b"/* \xff")?;
+    six(out, b"byte 128 behind what starts no item", b"x\x80")
 }
 
-fn lengths() {
+fn lengths(out: &mut impl Write) -> io::Result<()> {
     let longest = [32u8; 65536];
-    six(b"65536 blanks", &longest);
+    six(out, b"65536 blanks", &longest)?;
     let longer = [200u8; 65537];
-    six(b"65537 bytes of 200", &longer);
+    six(out, b"65537 bytes of 200", &longer)
 }
 
-fn six(name: &[u8], text: &[u8]) {
+fn six(out: &mut impl Write, name: &[u8], text: &[u8]) -> io::Result<()> {
     let mut table = [7u32; 6];
-    show(name, text, &mut table);
+    show(out, name, text, &mut table)
 }
 
-fn show(name: &[u8], text: &[u8], table: &mut [u32]) {
-    io::write_all(STDOUT_FILENO, name);
-    io::write_all(STDOUT_FILENO, b": ");
-    answer(trivia::items(text, table));
-    words(table);
-    io::write_all(STDOUT_FILENO, b"\n");
+fn show(out: &mut impl Write, name: &[u8], text: &[u8], table: &mut [u32]) -> io::Result<()> {
+    out.write_all(name)?;
+    out.write_all(b": ")?;
+    answer(out, trivia::items(text, table))?;
+    words(out, table)?;
+    out.write_all(b"\n")
 }
 
-fn answer(a: ItemsAnswer) {
+fn answer(out: &mut impl Write, a: ItemsAnswer) -> io::Result<()> {
     match a {
-        ItemsAnswer::Count(n) => number(b"items", n),
-        ItemsAnswer::TooLong(n) => number(b"refusal 1", n),
-        ItemsAnswer::HighByte(n) => number(b"refusal 2", n),
-        ItemsAnswer::NoItem(n) => number(b"refusal 11", n),
-        ItemsAnswer::NoRoom(n) => number(b"refusal 12", n),
+        ItemsAnswer::Count(n) => number(out, b"items", n),
+        ItemsAnswer::TooLong(n) => number(out, b"refusal 1", n),
+        ItemsAnswer::HighByte(n) => number(out, b"refusal 2", n),
+        ItemsAnswer::NoItem(n) => number(out, b"refusal 11", n),
+        ItemsAnswer::NoRoom(n) => number(out, b"refusal 12", n),
     }
 }
 
-fn number(word: &[u8], n: usize) {
-    io::write_all(STDOUT_FILENO, word);
-    io::write_all(STDOUT_FILENO, b" ");
-    io::print_decimal(STDOUT_FILENO, n as u64);
-    io::write_all(STDOUT_FILENO, b";");
+fn number(out: &mut impl Write, word: &[u8], n: usize) -> io::Result<()> {
+    out.write_all(word)?;
+    write!(out, " {n};")
 }
 
-fn words(table: &[u32]) {
+fn words(out: &mut impl Write, table: &[u32]) -> io::Result<()> {
     let mut i: usize = 0;
     while i < table.len() {
-        word(table[i]);
+        word(out, table[i])?;
         i += 1;
     }
+    Ok(())
 }
 
-fn word(n: u32) {
-    io::write_all(STDOUT_FILENO, b" ");
-    io::print_decimal(STDOUT_FILENO, n as u64);
+fn word(out: &mut impl Write, n: u32) -> io::Result<()> {
+    write!(out, " {n}")
 }

@@ -4,8 +4,10 @@
 
 ghost use Rattle.std.specs.Prelude.{◌<◌, length};
 
-use libc::{STDIN_FILENO, STDOUT_FILENO};
 use parser::{Answer, Reading};
+use std::alloc::Global;
+use std::io;
+use std::io::{BufWriter, Read, Write};
 use std::num::wrapping_add_usize;
 
 // What every word of the tables is before a call, so that one left alone is seen.
@@ -44,13 +46,18 @@ struct Counts {
     ended: bool,
 }
 
-fn main() {
-    let counts = parts();
-    report(counts);
+// How many bytes of the input a part has.
+const PART: u64 = 65536;
+
+fn main(rt: HostRuntime) -> io::Result<()> {
+    let mut out = BufWriter::new(rt.alloc(), io::writer(&rt))?;
+    let counts = parts(rt.alloc(), &mut rt.reader(), &mut out)?;
+    report(&mut out, counts)?;
+    out.flush()
 }
 
 // The input in parts of 65,536 bytes. No case lies across two of them.
-fn parts() -> Counts {
+fn parts(alloc: Global, from: &mut impl Read, out: &mut impl Write) -> io::Result<Counts> {
     let mut counts = Counts {
         equal: [0; 9],
         different: [0; 9],
@@ -61,55 +68,68 @@ fn parts() -> Counts {
         if counts.ended {
             break;
         }
-        counts = read_part(part, counts);
+        counts = read_part(alloc, from, out, part, counts)?;
         part += 1;
     }
-    counts
+    Ok(counts)
 }
 
-fn read_part(part: usize, counts: Counts) -> Counts {
-    let mut input = io::large_buffer();
+fn read_part(
+    alloc: Global,
+    from: &mut impl Read,
+    out: &mut impl Write,
+    part: usize,
+    counts: Counts,
+) -> io::Result<Counts> {
+    let mut input = Vec::new(alloc);
     let mut text = [0u8; 65537];
-    let n = io::read_full(STDIN_FILENO, &mut input);
+    let n = from.take(PART).read_to_end(&mut input)?;
     if n == 0 {
         let mut last = counts;
         last.ended = true;
-        return last;
+        return Ok(last);
     }
-    cases(&input[..n], part, &mut text, counts)
+    cases(out, &input, part, &mut text, counts)
 }
 
-fn cases(input: &[u8], part: usize, text: &mut [u8], before: Counts) -> Counts {
+fn cases(
+    out: &mut impl Write,
+    input: &[u8],
+    part: usize,
+    text: &mut [u8],
+    before: Counts,
+) -> io::Result<Counts> {
     let mut counts = before;
     let mut at: usize = 0;
     while at < input.len() {
         let next = fields::behind(input, at, b'\n');
-        counts = line(input, at, next, part, text, counts);
+        counts = line(out, input, at, next, part, text, counts)?;
         at = next;
     }
-    counts
+    Ok(counts)
 }
 
 // A line that is empty, or a case.
 fn line(
+    out: &mut impl Write,
     input: &[u8],
     at: usize,
     next: usize,
     part: usize,
     text: &mut [u8],
     counts: Counts,
-) -> Counts
+) -> io::Result<Counts>
     requires { at < length input.now }
 {
     if input[at] == b'\n' {
-        return counts;
+        return Ok(counts);
     }
     let kind = fields::field(input, at);
     let same = case(input, kind.next, next, text);
     if !same {
-        differs(part, at);
+        differs(out, part, at)?;
     }
-    counted(counts, kind.value % 9, same)
+    Ok(counted(counts, kind.value % 9, same))
 }
 
 fn counted(counts: Counts, kind: usize, same: bool) -> Counts
@@ -428,50 +448,43 @@ fn expect(input: &[u8], m: Mark, found: usize) -> Mark {
     }
 }
 
-fn differs(part: usize, at: usize) {
-    io::write_all(STDOUT_FILENO, b"different: part ");
-    io::print_decimal(STDOUT_FILENO, part as u64);
-    io::write_all(STDOUT_FILENO, b", byte ");
-    io::print_decimal(STDOUT_FILENO, at as u64);
-    io::write_all(STDOUT_FILENO, b"\n");
+fn differs(out: &mut impl Write, part: usize, at: usize) -> io::Result<()> {
+    writeln!(out, "different: part {part}, byte {at}")
 }
 
 // A line for each kind, and one for all.
-fn report(counts: Counts) {
+fn report(out: &mut impl Write, counts: Counts) -> io::Result<()> {
     let equal = counts.equal;
     let different = counts.different;
     let mut kind: usize = 0;
     let mut e: usize = 0;
     let mut d: usize = 0;
     while kind < 9 {
-        name(kind);
-        total(equal[kind], different[kind]);
+        name(out, kind)?;
+        total(out, equal[kind], different[kind])?;
         e = wrapping_add_usize(e, equal[kind]);
         d = wrapping_add_usize(d, different[kind]);
         kind += 1;
     }
-    name(9);
-    total(e, d);
+    name(out, 9)?;
+    total(out, e, d)
 }
 
-fn name(kind: usize) {
+fn name(out: &mut impl Write, kind: usize) -> io::Result<()> {
     match kind {
-        0 => io::write_all(STDOUT_FILENO, b"public "),
-        1 => io::write_all(STDOUT_FILENO, b"a level less "),
-        2 => io::write_all(STDOUT_FILENO, b"a row less "),
-        3 => io::write_all(STDOUT_FILENO, b"an error less "),
-        4 => io::write_all(STDOUT_FILENO, b"a request less "),
-        5 => io::write_all(STDOUT_FILENO, b"from a state "),
-        6 => io::write_all(STDOUT_FILENO, b"others "),
-        7 => io::write_all(STDOUT_FILENO, b"in larger limits "),
-        8 => io::write_all(STDOUT_FILENO, b"lines "),
-        _ => io::write_all(STDOUT_FILENO, b"all "),
-    };
+        0 => out.write_all(b"public "),
+        1 => out.write_all(b"a level less "),
+        2 => out.write_all(b"a row less "),
+        3 => out.write_all(b"an error less "),
+        4 => out.write_all(b"a request less "),
+        5 => out.write_all(b"from a state "),
+        6 => out.write_all(b"others "),
+        7 => out.write_all(b"in larger limits "),
+        8 => out.write_all(b"lines "),
+        _ => out.write_all(b"all "),
+    }
 }
 
-fn total(equal: usize, different: usize) {
-    io::print_decimal(STDOUT_FILENO, equal as u64);
-    io::write_all(STDOUT_FILENO, b" equal ");
-    io::print_decimal(STDOUT_FILENO, different as u64);
-    io::write_all(STDOUT_FILENO, b" different\n");
+fn total(out: &mut impl Write, equal: usize, different: usize) -> io::Result<()> {
+    writeln!(out, "{equal} equal {different} different")
 }

@@ -3,7 +3,8 @@
 
 ghost use Rattle.std.specs.Prelude.{◌≤◌, length};
 
-use libc::STDOUT_FILENO;
+use std::io;
+use std::io::{BufWriter, Write};
 use table::Pos;
 use word::{Picked, mnemonic, operator};
 
@@ -21,60 +22,62 @@ fn pick(s: &[u8], at: Pos, list: usize) -> Picked
     }
 }
 
-fn show(cell: &[u8], w: Picked) {
-    io::write_all(STDOUT_FILENO, cell);
+fn show(out: &mut impl Write, cell: &[u8], w: Picked) -> io::Result<()> {
+    out.write_all(cell)?;
     let Picked::Word(n, d) = w else {
-        io::write_all(STDOUT_FILENO, b" -\n");
-        return;
+        return out.write_all(b" -\n");
     };
-    io::write_all(STDOUT_FILENO, b" ");
-    io::print_decimal(STDOUT_FILENO, n as u64);
-    io::write_all(STDOUT_FILENO, b" ");
-    io::print_decimal(STDOUT_FILENO, d as u64);
-    io::write_all(STDOUT_FILENO, b"\n");
+    writeln!(out, " {n} {d}")
 }
 
 // Each cell of a text, and the rest of it that is shorter.
-fn cells(s: &[u8], width: usize, list: usize)
+fn cells(out: &mut impl Write, s: &[u8], width: usize, list: usize) -> io::Result<()>
     requires { (1 ≤ width) × (width ≤ 9) }
 {
     let mut i = 0;
     while i + width <= s.len() {
-        show(&s[i..i + width], pick(s, Pos(i), list));
+        show(out, &s[i..i + width], pick(s, Pos(i), list))?;
         i += width;
     }
-    show(&s[i..], pick(s, Pos(i), list));
+    show(out, &s[i..], pick(s, Pos(i), list))
 }
 
-fn main() {
-    cells(b"< > <=?x<", 2, 0);
-    cells(b"* / % <<>>^ < > <>&*+ <", 2, 1);
-    cells(b"+ - ==!=>=<=> < &&||= ! & | =>x >", 2, 2);
+fn main(rt: HostRuntime) -> io::Result<()> {
+    let mut out = BufWriter::new(rt.alloc(), io::writer(&rt))?;
+    cells(&mut out, b"< > <=?x<", 2, 0)?;
+    cells(&mut out, b"* / % <<>>^ < > <>&*+ <", 2, 1)?;
+    cells(&mut out, b"+ - ==!=>=<=> < &&||= ! & | =>x >", 2, 2)?;
     cells(
+        &mut out,
         b"ascii    petscii  petscreenASCII    PetScii  PETSCREENasci     petscrEnapetscree",
         9,
         3,
-    );
+    )?;
     cells(
+        &mut out,
         b"adcandaslbccbcsbeqbitbmibnebplbvcbvscmpcpxcpydeceorincjmpjsrldaldxldylsrorarolrorsbcstastxsty",
         3,
         4,
-    );
+    )?;
     cells(
+        &mut out,
         b"ADCANDASLBCCBCSBEQBITBMIBNEBPLBVCBVSCMPCPXCPYDECEORINCJMPJSRLDALDXLDYLSRORAROLRORSBCSTASTXSTY",
         3,
         4,
-    );
+    )?;
     cells(
+        &mut out,
         b"aslbrkclccldcliclvdexdeyinxinylsrnopphaphpplaplprolrorrtirtssecsedseitaxtaytsxtxatxstya",
         3,
         5,
-    );
+    )?;
     cells(
+        &mut out,
         b"ASLBRKCLCCLDCLICLVDEXDEYINXINYLSRNOPPHAPHPPLAPLPROLRORRTIRTSSECSEDSEITAXTAYTSXTXATXSTYA",
         3,
         5,
-    );
-    cells(b"lDaBrKnopadd12 a}cad", 3, 4);
-    cells(b"nOpldaa}cAslxyz[LC", 3, 5);
+    )?;
+    cells(&mut out, b"lDaBrKnopadd12 a}cad", 3, 4)?;
+    cells(&mut out, b"nOpldaa}cAslxyz[LC", 3, 5)?;
+    out.flush()
 }
