@@ -33,14 +33,14 @@ flat_leaf a = record { reads = λ left. reads_leaf left a }
 -- Parts and attempts ---------------------------------------------------------
 
 module _ {m : Parser} {s : List ℕ} {c : Cursor} {left : ℕ} {t t₁ : List ℕ} {r₁ : Read} (a : Reads m s c left t t₁ r₁) where
-  pub seq_stop : (n : Parser) → OneOf (1 ∷ 2 ∷ []) (tag_of the_type r₁) → Reads (m ▸ n) s c left t t₁ r₁
-  seq_stop n h = record { reading = λ l. seq_out (a.reading l) n (not_got r₁ h) }
+  pub seq_stop : (n : Parser) → ((d : Cursor) → r₁ ≡ Got d → ⊥) → Reads (m ▸ n) s c left t t₁ r₁
+  seq_stop n h = record { reading = λ l. seq_out (a.reading l) n h }
 
   pub seq_on : T (quiet m) → {n : Parser} {d : Cursor} → r₁ ≡ Got d → {t' : List ℕ} {r : Read} → Reads n s d left t₁ t' r → Reads (m ▸ n) s c left t t' r
   seq_on u {n} {d} e b = record { reading = λ l. seq_got (a.reading l) n u d e (b.reading l) }
 
-  pub or_stop : (n : Parser) → OneOf (0 ∷ 2 ∷ []) (tag_of the_type r₁) → Reads (m or n) s c left t t₁ r₁
-  or_stop n h = record { reading = λ l. or_first (a.reading l) n (not_miss r₁ h) }
+  pub or_stop : (n : Parser) → ((m : Bool) → r₁ ≡ Miss m → ⊥) → Reads (m or n) s c left t t₁ r₁
+  or_stop n h = record { reading = λ l. or_first (a.reading l) n h }
 
   pub or_on : {n : Parser} {x : Bool} → r₁ ≡ Miss x → {t' : List ℕ} {r : Read}
       → Reads n s (cursor c.at.0 c.count.0 x) left t₁ t' r → Reads (m or n) s c left t t' r
@@ -68,10 +68,10 @@ module _ {m : Parser} {s : List ℕ} {c : Cursor} {left : ℕ} {t t₁ : List �
       go Deep q = reads_as (e ∙ ap (tried c) q) (record { reading = λ l. opt_first (never_deep (a.reading l) q) λ x z. miss_deep x (sym z) })
 
 -- what `optional` answers
-pub optional_kept : (c : Cursor) (f : Read) → OneOf (0 ∷ 2 ∷ []) (tag_of the_type f) → f ≡ optional c f
+pub optional_kept : (c : Cursor) (f : Read) → ((m : Bool) → f ≡ Miss m → ⊥) → f ≡ optional c f
 unfolding optional
 optional_kept c (Got d) h = refl
-optional_kept c (Miss m) h = absurd (not_miss (Miss m) h m refl)
+optional_kept c (Miss m) h = absurd (h m refl)
 optional_kept c Deep h = refl
 
 pub optional_none : (c : Cursor) {f : Read} {m : Bool} → f ≡ Miss m → Got (cursor c.at.0 c.count.0 m) ≡ optional c f

@@ -27,9 +27,9 @@ use Rattle.head.proofs.Steps.{reads_as}
 
 -- what `whole` answers
 module _ (kind : ℕ) (c : Cursor) (k : Skip) where
-  pub whole_none : (f : Read) (t : List ℕ) → OneOf (1 ∷ 2 ∷ []) (tag_of the_type f) → Whole kind c k f t t f
+  pub whole_none : (f : Read) (t : List ℕ) → ((d : Cursor) → f ≡ Got d → ⊥) → Whole kind c k f t t f
   unfolding whole_rows whole_answer
-  whole_none (Got e) t h = absurd (not_got (Got e) h e refl)
+  whole_none (Got e) t h = absurd (h e refl)
   whole_none (Miss m) t h = record { table = refl; answer = refl }
   whole_none Deep t h = record { table = refl; answer = refl }
 
@@ -41,8 +41,8 @@ module _ (kind : ℕ) (c : Cursor) (k : Skip) where
 
 -- over, from the answer of its first child and that of the others
 module _ (kind : ℕ) {m : Parser} (n : Parser) {s : List ℕ} {c : Cursor} {left : ℕ} {t t₁ : List ℕ} {r₁ : Read} (a : Reads m s c left t t₁ r₁) where
-  pub over_stop : OneOf (1 ∷ 2 ∷ []) (tag_of the_type r₁) → Reads (over kind 0 m n) s c left t t₁ r₁
-  over_stop h = record { reading = λ l. over_out kind 0 n (a.reading l) (not_got r₁ h) }
+  pub over_stop : ((d : Cursor) → r₁ ≡ Got d → ⊥) → Reads (over kind 0 m n) s c left t t₁ r₁
+  over_stop h = record { reading = λ l. over_out kind 0 n (a.reading l) h }
 
   -- k: where the first child begins
   pub over_whole : T (quiet m) → T (quiet n) → {d : Cursor} → r₁ ≡ Got d → {t₂ : List ℕ} {r₂ : Read} → Reads n s d left t₁ t₂ r₂

@@ -1,0 +1,42 @@
+use Rattle.reading.specs.Grammar.{empty}
+use Rattle.reading.specs.Rules.{multiline_trivia, colon, mname}
+use Rattle.cursor.proofs.Laws.{reads_leaf, skips_empty}
+use Rattle.lexis.proofs.Marks.{placed}
+use Rattle.lexis.proofs.Solids.{mname_solid}
+use Rattle.head.proofs.Steps.{seq_stop, seq_on}
+use Rattle.head.proofs.Bounds.{paid_up, next}
+use Rattle.head.specs.Heads.{label_head}
+use lib.Dec.{lit≤}
+use borrow.Author.Rules.{rules}
+use Rattle.head.proofs.definition.label_head.Goals as goal
+
+pub returns-in_default : goal.returns-in_default
+unfolding label_head mname
+returns-in_default c =
+    record {
+      reads = λ left. seq_stop (reads_leaf left (c.name-f.ensures.leafs multiline_trivia
+          c.requires.skips)) colon c.in_default.not-Got;
+    }
+
+pub char-requires : goal.char-requires
+unfolding mname
+char-requires c =
+    let x = (next (paid_up mname_solid) c.requires.ready (reads_leaf
+    0 (c.name-f.ensures.leafs multiline_trivia
+    c.requires.skips)) c.in-Got.is
+    ).ready in
+    placed x (lit≤ tt) (skips_empty _ _ _ x.within)
+
+pub returns : goal.returns
+unfolding label_head mname colon
+returns c =
+    let a = (c.name-f.ensures.leafs multiline_trivia
+    c.requires.skips) in
+    let x = (next (paid_up mname_solid)
+    c.requires.ready (reads_leaf 0 a)
+    c.in-Got.is).ready in
+    let b = c.char.ensures.leafs empty (skips_empty _ _ _ x.within) in
+    record {
+      reads = λ left. seq_on (reads_leaf left a) mname_solid.quieted c.in-Got.is
+          (reads_leaf left b);
+    }

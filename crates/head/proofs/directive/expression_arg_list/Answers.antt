@@ -1,0 +1,8 @@
+use Rattle.head.proofs.Arguments.{reads_arguments}
+use borrow.Author.Rules.{rules}
+use Rattle.head.proofs.directive.expression_arg_list.Goals as goal
+
+pub returns : goal.returns
+returns c =
+    reads_arguments c.requires.le_at c.requires.ready.within
+    c.arguments.ensures

@@ -1,0 +1,6 @@
+use Rattle.head.proofs.Steps.{flat_leaf}
+use borrow.Author.Rules.{rules}
+use Rattle.head.proofs.import.import_file.Goals as goal
+
+pub returns : goal.returns
+returns c = flat_leaf c.string.ensures

@@ -1,0 +1,35 @@
+use Rattle.reading.specs.Rules.{multiline_trivia}
+use Rattle.cursor.proofs.Laws.{reads_leaf}
+use Rattle.lexis.proofs.Marks.{placed}
+use Rattle.head.proofs.Steps.{seq_stop, seq_on}
+use Rattle.head.proofs.Bounds.{next}
+use Rattle.head.specs.Heads.{import_names}
+use Rattle.head.proofs.Tests.{import_args_owing}
+use lib.Dec.{lit≤, lit<}
+use borrow.Author.Rules.{rules}
+use Rattle.head.proofs.import.import_names.Goals as goal
+
+pub returns-in_default : goal.returns-in_default
+unfolding import_names
+returns-in_default c = record { reads = λ left. seq_stop (c.import_args-f.ensures.reads left) _ c.in_default.not-Got }
+
+pub multiline_trivia-k-requires : goal.multiline_trivia-k-requires
+multiline_trivia-k-requires c =
+    (next import_args_owing c.requires
+    (c.import_args-f.ensures.reads 0) c.in-Got.is).ready.within
+
+pub word-requires-clause-placed : goal.word-requires-clause-placed
+word-requires-clause-placed c =
+    let d = (next import_args_owing c.requires
+    (c.import_args-f.ensures.reads 0)
+    c.in-Got.is).ready in placed d (lit≤ tt) c.multiline_trivia-k.ensures
+
+pub returns : goal.returns
+unfolding import_names
+returns c =
+    let b = c.word.ensures.leafs multiline_trivia c.multiline_trivia-k.ensures in
+    record {
+      reads = λ left. seq_on
+          (c.import_args-f.ensures.reads left)
+          import_args_owing.quieted c.in-Got.is (reads_leaf left b);
+    }

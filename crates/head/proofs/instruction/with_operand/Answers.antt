@@ -1,0 +1,47 @@
+use mathlib.Core.Bool.{false}
+use Rattle.reading.specs.Rules.{opt, multiline_trivia, operand}
+use Rattle.cursor.proofs.Laws.{reads_leaf}
+use Rattle.lexis.proofs.Marks.{placed}
+use Rattle.head.proofs.Steps.{reads_optional}
+use Rattle.head.proofs.Wholes.{over_stop}
+use Rattle.head.specs.Heads.{with_operand}
+use Rattle.head.proofs.Tests.{operand_owing}
+use Rattle.head.proofs.Statements.{mnemonic_begins, rest_ready, rest_closable, rest_whole}
+use Rattle.reading.specs.Kind.{instructionᵏ}
+use lib.Dec.{lit≤, lit<}
+use borrow.Author.Rules.{rules}
+use Rattle.head.proofs.instruction.with_operand.Goals as goal
+
+pub returns-in_default : goal.returns-in_default
+unfolding with_operand
+returns-in_default c =
+    over_stop instructionᵏ (opt operand) (reads_leaf _ (c.mnemonic-f.ensures.leafs multiline_trivia
+    c.requires.skips)) c.in_default.not-Got
+
+pub operand-g-requires : goal.operand-g-requires
+operand-g-requires c =
+    rest_ready (mnemonic_begins (c.requires.ready, c.requires.skips) false) (reads_leaf 0
+    (c.mnemonic-f.ensures.leafs multiline_trivia
+    c.requires.skips)) c.in-Got.is
+
+pub whole-requires-clause-closable : goal.whole-requires-clause-closable
+whole-requires-clause-closable c = rest_closable (mnemonic_begins
+    (c.requires.ready, c.requires.skips) false)
+    (reads_leaf _ (c.mnemonic-f.ensures.leafs
+    multiline_trivia
+    c.requires.skips))
+    c.in-Got.is operand_owing (lit≤ tt) (reads_optional
+    c.operand-g.ensures c.optional-h.ensures)
+
+pub returns : goal.returns
+unfolding with_operand
+returns c =
+    rest_whole (mnemonic_begins
+    (c.requires.ready, c.requires.skips)
+    false) (reads_leaf _
+    (c.mnemonic-f.ensures.leafs
+    multiline_trivia
+    c.requires.skips))
+    c.in-Got.is operand_owing (lit≤ tt) (reads_optional
+    c.operand-g.ensures c.optional-h.ensures) instructionᵏ
+    c.whole.ensures

@@ -1,0 +1,7 @@
+use Rattle.reading.specs.Rules.{trivia, name}
+use borrow.Author.Rules.{rules}
+use Rattle.head.proofs.part.name.Goals as goal
+
+pub returns : goal.returns
+unfolding name
+returns c = c.name.ensures.leafs trivia c.trivia-k.ensures

@@ -1,0 +1,7 @@
+use Rattle.reading.specs.Rules.{trivia, path}
+use borrow.Author.Rules.{rules}
+use Rattle.head.proofs.part.path.Goals as goal
+
+pub returns : goal.returns
+unfolding path
+returns c = c.path.ensures.leafs trivia c.trivia-k.ensures
