@@ -1,0 +1,26 @@
+use Rattle.statement.proofs.Parts.{shut_first, shut_missing}
+use Rattle.statement.proofs.Chains.{fit_next}
+use Rattle.statement.proofs.Tests.{mark_paid}
+use Rattle.state.proofs.Agree.{not_miss}
+use Rattle.state.proofs.Bounds.{fit_errors}
+use mathlib.Core.List.{[]}
+use native.Mathlib.Omega.{arith}
+use borrow.Author.Rules.{rules}
+use Rattle.statement.proofs.brace.close.Reads as reads
+use Rattle.statement.proofs.brace.close.Lts as lts
+use Rattle.state.proofs.report.Reads as report-reads
+use Rattle.statement.proofs.brace.mark.Reads as mark-reads
+use Rattle.table.proofs.push_row.Reads as push-row-reads
+use Rattle.trivia.proofs.multiline_trivia.Reads as multiline-trivia-reads
+use Rattle.statement.proofs.brace.close.Goals as goal
+-- src/brace.rt:53:9
+pub returns-in_default : goal.returns-in_default
+returns-in_default c = shut_first c.mark-r.ensures c.in_default.not-Miss
+
+-- src/brace.rt:65:9
+pub report-y-requires : goal.report-y-requires
+report-y-requires c = let f = fit_next (c.mark-r.ensures.does 0 []) c.requires.fit (mark_paid 125).0 c.in-Miss.x c.in-Miss.is in let k = fit_errors f in omega (arith, c.requires.fit.small, c.requires.fit.within, k)
+
+-- src/brace.rt:43:1
+pub returns : goal.returns
+returns c = shut_missing c.mark-r.ensures c.in-Miss.x c.in-Miss.is c.push_row.ensures c.report-y.ensures

@@ -1,0 +1,15 @@
+use Rattle.statement.proofs.Lifts.{lift_flat, fit_lifts}
+use Rattle.statement.proofs.Tests.{statement_quiet}
+use borrow.Author.Rules.{rules}
+use Rattle.statement.proofs.quiet.file.Reads as reads
+use Rattle.statement.proofs.quiet.file.Lts as lts
+use Rattle.head.proofs.directive.file.Reads as file-reads
+use Rattle.statement.proofs.lift.lifted.Reads as lifted-reads
+use Rattle.statement.proofs.quiet.file.Goals as goal
+-- src/quiet.rt:181:5
+pub lifted-requires : goal.lifted-requires
+lifted-requires c = fit_lifts c.requires.fit
+
+-- src/quiet.rt:164:1
+pub returns : goal.returns
+returns c = lift_flat statement_quiet.7 c.requires.fit.within c.lifted.ensures c.file-f.ensures.reads

@@ -1,0 +1,15 @@
+use Rattle.statement.proofs.Lifts.{lift, fit_lifts}
+use Rattle.statement.proofs.Tests.{statement_quiet}
+use borrow.Author.Rules.{rules}
+use Rattle.statement.proofs.quiet.instruct.Reads as reads
+use Rattle.statement.proofs.quiet.instruct.Lts as lts
+use Rattle.head.proofs.instruction.instruction.Reads as instruction-reads
+use Rattle.statement.proofs.lift.lifted.Reads as lifted-reads
+use Rattle.statement.proofs.quiet.instruct.Goals as goal
+-- src/quiet.rt:35:5
+pub lifted-requires : goal.lifted-requires
+lifted-requires c = fit_lifts c.requires.fit
+
+-- src/quiet.rt:17:1
+pub returns : goal.returns
+returns c = lift statement_quiet.0 c.requires.fit.within c.lifted.ensures c.instruction-f.ensures

@@ -1,0 +1,15 @@
+use Rattle.statement.proofs.Lifts.{lift, fit_lifts}
+use Rattle.statement.proofs.Tests.{statement_quiet}
+use borrow.Author.Rules.{rules}
+use Rattle.statement.proofs.quiet.invoke.Reads as reads
+use Rattle.statement.proofs.quiet.invoke.Lts as lts
+use Rattle.head.proofs.definition.macro_invocation.Reads as macro-invocation-reads
+use Rattle.statement.proofs.lift.lifted.Reads as lifted-reads
+use Rattle.statement.proofs.quiet.invoke.Goals as goal
+-- src/quiet.rt:119:5
+pub lifted-requires : goal.lifted-requires
+lifted-requires c = fit_lifts c.requires.fit
+
+-- src/quiet.rt:101:1
+pub returns : goal.returns
+returns c = lift statement_quiet.4 c.requires.fit.within c.lifted.ensures c.macro_invocation-f.ensures

@@ -1,0 +1,15 @@
+use Rattle.statement.proofs.Lifts.{lift, fit_lifts}
+use Rattle.statement.proofs.Tests.{directive_quiet}
+use borrow.Author.Rules.{rules}
+use Rattle.statement.proofs.start.directive_head.Reads as reads
+use Rattle.statement.proofs.start.directive_head.Lts as lts
+use Rattle.head.proofs.directive.directive_expression.Reads as directive-expression-reads
+use Rattle.statement.proofs.lift.lifted.Reads as lifted-reads
+use Rattle.statement.proofs.start.directive_head.Goals as goal
+-- src/start.rt:119:5
+pub lifted-requires : goal.lifted-requires
+lifted-requires c = fit_lifts c.requires.fit
+
+-- src/start.rt:100:1
+pub returns : goal.returns
+returns c = lift (directive_quiet _) c.requires.fit.within c.lifted.ensures c.directive_expression-f.ensures
