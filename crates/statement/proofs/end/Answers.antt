@@ -4,6 +4,7 @@ use Rattle.state.proofs.Agree.{not_got}
 use Rattle.statement.proofs.Tests.{eof_sober, eof_debt}
 use Rattle.statement.proofs.Drafts.{fit_count, lined_out, lined_got, numbered_behind, few_behind}
 use Rattle.statement.proofs.end.Goals as goal
+
 pub returns-in_default : goal.returns-in_default
 returns-in_default c = lined_out c.eof_behind-r.ensures c.in_default.not-Got
 

@@ -8,6 +8,7 @@ use Rattle.line.specs.Marks.{On}
 use Rattle.state.specs.Acts.{tables}
 use Rattle.statement.proofs.Files.{start_fit, Filling, filling_none, filling_rows, filling_numbered, filling_less, filling_few, filling_more, filling_fit, filling_end, filling_deep}
 use Rattle.statement.proofs.source_file.Goals as goal
+
 pub loop-d-init : goal.loop-d-init
 loop-d-init c = (c.start-here.ensures, filling_none _ _ (start_fit c.requires))
 

@@ -7,6 +7,7 @@ use Rattle.statement.proofs.token.Lts as lts
 use Rattle.statement.proofs.stmt.statement.Reads as statement-reads
 use Rattle.statement.proofs.text.error.Reads as error-reads
 use Rattle.statement.proofs.token.Goals as goal
+
 -- src/lib.rt:38:9
 pub returns-in_default : goal.returns-in_default
 returns-in_default c = does_first c.statement-r.ensures c.in_default.not-Miss

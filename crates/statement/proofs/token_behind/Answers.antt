@@ -2,5 +2,6 @@ use native.Mathlib.Omega.{arith}
 use borrow.Author.Rules.{rules}
 use Rattle.statement.proofs.Drafts.{fit_count, fit_later, part_behind}
 use Rattle.statement.proofs.token_behind.Goals as goal
+
 pub returns : goal.returns
 returns c = part_behind _ _ _ _ _ _ _ _ c.part_at-k.ensures c.token.auto.rows c.token.ensures

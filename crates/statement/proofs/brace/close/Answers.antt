@@ -13,6 +13,7 @@ use Rattle.statement.proofs.brace.mark.Reads as mark-reads
 use Rattle.table.proofs.push_row.Reads as push-row-reads
 use Rattle.trivia.proofs.multiline_trivia.Reads as multiline-trivia-reads
 use Rattle.statement.proofs.brace.close.Goals as goal
+
 -- src/brace.rt:53:9
 pub returns-in_default : goal.returns-in_default
 returns-in_default c = shut_first c.mark-r.ensures c.in_default.not-Miss

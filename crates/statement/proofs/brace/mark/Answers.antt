@@ -6,6 +6,7 @@ use Rattle.statement.proofs.brace.mark.Lts as lts
 use Rattle.lexis.proofs.mark.char.Reads as char-reads
 use Rattle.statement.proofs.lift.lifted.Reads as lifted-reads
 use Rattle.statement.proofs.brace.mark.Goals as goal
+
 -- src/brace.rt:38:5
 pub lifted-requires : goal.lifted-requires
 lifted-requires c = fit_lifts c.requires.fit

@@ -13,6 +13,7 @@ use Rattle.statement.proofs.expected.values.Reads as values-reads
 use Rattle.statement.proofs.row.close.Reads as close-reads
 use Rattle.statement.proofs.start.data_head.Reads as data-head-reads
 use Rattle.statement.proofs.expected.data.Goals as goal
+
 -- src/expected.rt:107:9
 pub returns-in_default : goal.returns-in_default
 returns-in_default c = data_out c.data_head-f.ensures c.in_default.not-Got

@@ -13,6 +13,7 @@ use Rattle.statement.proofs.expected.map.Reads as map-reads
 use Rattle.statement.proofs.row.close.Reads as close-reads
 use Rattle.statement.proofs.start.define_head.Reads as define-head-reads
 use Rattle.statement.proofs.expected.definition.Goals as goal
+
 -- src/expected.rt:58:9
 pub returns-in_default : goal.returns-in_default
 returns-in_default c = definition_out c.define_head-f.ensures c.in_default.not-Got

@@ -13,6 +13,7 @@ use Rattle.state.proofs.report.Reads as report-reads
 use Rattle.operand.proofs.config_map.config_map.Reads as config-map-reads
 use Rattle.statement.proofs.lift.lifted.Reads as lifted-reads
 use Rattle.statement.proofs.expected.map.Goals as goal
+
 -- src/expected.rt:36:9
 pub lifted-r-requires : goal.lifted-r-requires
 lifted-r-requires c = fit_lifts c.requires

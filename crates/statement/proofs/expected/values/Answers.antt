@@ -13,6 +13,7 @@ use Rattle.state.proofs.report.Reads as report-reads
 use Rattle.head.proofs.directive.expression_arg_list.Reads as expression-arg-list-reads
 use Rattle.statement.proofs.lift.lifted.Reads as lifted-reads
 use Rattle.statement.proofs.expected.values.Goals as goal
+
 -- src/expected.rt:85:9
 pub lifted-r-requires : goal.lifted-r-requires
 lifted-r-requires c = fit_lifts c.requires.fit

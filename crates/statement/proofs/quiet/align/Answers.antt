@@ -6,6 +6,7 @@ use Rattle.statement.proofs.quiet.align.Lts as lts
 use Rattle.head.proofs.directive.align.Reads as align-reads
 use Rattle.statement.proofs.lift.lifted.Reads as lifted-reads
 use Rattle.statement.proofs.quiet.align.Goals as goal
+
 -- src/quiet.rt:140:5
 pub lifted-requires : goal.lifted-requires
 lifted-requires c = fit_lifts c.requires.fit

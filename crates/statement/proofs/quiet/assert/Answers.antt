@@ -6,6 +6,7 @@ use Rattle.statement.proofs.quiet.assert.Lts as lts
 use Rattle.head.proofs.directive.assert.Reads as assert-reads
 use Rattle.statement.proofs.lift.lifted.Reads as lifted-reads
 use Rattle.statement.proofs.quiet.assert.Goals as goal
+
 -- src/quiet.rt:202:5
 pub lifted-requires : goal.lifted-requires
 lifted-requires c = fit_lifts c.requires.fit

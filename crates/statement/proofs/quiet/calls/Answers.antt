@@ -9,6 +9,7 @@ use Rattle.statement.proofs.quiet.calls.Lts as lts
 use Rattle.statement.proofs.expected.data.Reads as data_Reads
 use Rattle.statement.proofs.quiet.invoke.Reads as invoke-reads
 use Rattle.statement.proofs.quiet.calls.Goals as goal
+
 -- src/quiet.rt:258:9
 pub returns-in_default : goal.returns-in_default
 returns-in_default c = (tells_first c.invoke-r.ensures c.in_default.not-Miss)

@@ -9,6 +9,7 @@ use Rattle.statement.proofs.quiet.checks.Lts as lts
 use Rattle.statement.proofs.quiet.assert.Reads as assert-reads
 use Rattle.statement.proofs.quiet.trace.Reads as trace-reads
 use Rattle.statement.proofs.quiet.checks.Goals as goal
+
 -- src/quiet.rt:282:9
 pub returns-in_default : goal.returns-in_default
 returns-in_default c = (tells_first c.assert-r.ensures c.in_default.not-Miss)

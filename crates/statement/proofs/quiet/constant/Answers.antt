@@ -6,6 +6,7 @@ use Rattle.statement.proofs.quiet.constant.Lts as lts
 use Rattle.head.proofs.definition.const_definition.Reads as const-definition-reads
 use Rattle.statement.proofs.lift.lifted.Reads as lifted-reads
 use Rattle.statement.proofs.quiet.constant.Goals as goal
+
 -- src/quiet.rt:77:5
 pub lifted-requires : goal.lifted-requires
 lifted-requires c = fit_lifts c.requires.fit

@@ -6,6 +6,7 @@ use Rattle.statement.proofs.quiet.counter.Lts as lts
 use Rattle.head.proofs.definition.pc_definition.Reads as pc-definition-reads
 use Rattle.statement.proofs.lift.lifted.Reads as lifted-reads
 use Rattle.statement.proofs.quiet.counter.Goals as goal
+
 -- src/quiet.rt:98:5
 pub lifted-requires : goal.lifted-requires
 lifted-requires c = fit_lifts c.requires.fit

@@ -6,6 +6,7 @@ use Rattle.statement.proofs.quiet.file.Lts as lts
 use Rattle.head.proofs.directive.file.Reads as file-reads
 use Rattle.statement.proofs.lift.lifted.Reads as lifted-reads
 use Rattle.statement.proofs.quiet.file.Goals as goal
+
 -- src/quiet.rt:181:5
 pub lifted-requires : goal.lifted-requires
 lifted-requires c = fit_lifts c.requires.fit

@@ -6,6 +6,7 @@ use Rattle.statement.proofs.quiet.instruct.Lts as lts
 use Rattle.head.proofs.instruction.instruction.Reads as instruction-reads
 use Rattle.statement.proofs.lift.lifted.Reads as lifted-reads
 use Rattle.statement.proofs.quiet.instruct.Goals as goal
+
 -- src/quiet.rt:35:5
 pub lifted-requires : goal.lifted-requires
 lifted-requires c = fit_lifts c.requires.fit

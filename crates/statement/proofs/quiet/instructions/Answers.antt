@@ -13,6 +13,7 @@ use Rattle.statement.proofs.quiet.counter.Reads as counter-reads
 use Rattle.statement.proofs.quiet.instruct.Reads as instruct-reads
 use Rattle.statement.proofs.quiet.variable.Reads as variable-reads
 use Rattle.statement.proofs.quiet.instructions.Goals as goal
+
 -- src/quiet.rt:234:9
 pub returns-in_default : goal.returns-in_default
 returns-in_default c = (tells_first c.instruct-r.ensures c.in_default.not-Miss)

@@ -6,6 +6,7 @@ use Rattle.statement.proofs.quiet.invoke.Lts as lts
 use Rattle.head.proofs.definition.macro_invocation.Reads as macro-invocation-reads
 use Rattle.statement.proofs.lift.lifted.Reads as lifted-reads
 use Rattle.statement.proofs.quiet.invoke.Goals as goal
+
 -- src/quiet.rt:119:5
 pub lifted-requires : goal.lifted-requires
 lifted-requires c = fit_lifts c.requires.fit

@@ -6,6 +6,7 @@ use Rattle.statement.proofs.quiet.text.Lts as lts
 use Rattle.head.proofs.directive.text.Reads as text-reads
 use Rattle.statement.proofs.lift.lifted.Reads as lifted-reads
 use Rattle.statement.proofs.quiet.text.Goals as goal
+
 -- src/quiet.rt:161:5
 pub lifted-requires : goal.lifted-requires
 lifted-requires c = fit_lifts c.requires.fit

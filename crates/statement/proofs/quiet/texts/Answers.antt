@@ -9,6 +9,7 @@ use Rattle.statement.proofs.quiet.texts.Lts as lts
 use Rattle.statement.proofs.quiet.file.Reads as file-reads
 use Rattle.statement.proofs.quiet.text.Reads as text-reads
 use Rattle.statement.proofs.quiet.texts.Goals as goal
+
 -- src/quiet.rt:270:9
 pub returns-in_default : goal.returns-in_default
 returns-in_default c = (tells_first c.text-r.ensures c.in_default.not-Miss)

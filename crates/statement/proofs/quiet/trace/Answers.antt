@@ -6,6 +6,7 @@ use Rattle.statement.proofs.quiet.trace.Lts as lts
 use Rattle.head.proofs.directive.trace.Reads as trace-reads
 use Rattle.statement.proofs.lift.lifted.Reads as lifted-reads
 use Rattle.statement.proofs.quiet.trace.Goals as goal
+
 -- src/quiet.rt:223:5
 pub lifted-requires : goal.lifted-requires
 lifted-requires c = fit_lifts c.requires.fit

@@ -6,6 +6,7 @@ use Rattle.statement.proofs.quiet.variable.Lts as lts
 use Rattle.head.proofs.definition.variable_definition.Reads as variable-definition-reads
 use Rattle.statement.proofs.lift.lifted.Reads as lifted-reads
 use Rattle.statement.proofs.quiet.variable.Goals as goal
+
 -- src/quiet.rt:56:5
 pub lifted-requires : goal.lifted-requires
 lifted-requires c = fit_lifts c.requires.fit

@@ -6,6 +6,7 @@ use Rattle.statement.proofs.start.data_head.Lts as lts
 use Rattle.head.proofs.directive.data_head.Reads as data-head-reads
 use Rattle.statement.proofs.lift.lifted.Reads as lifted-reads
 use Rattle.statement.proofs.start.data_head.Goals as goal
+
 -- src/start.rt:96:5
 pub lifted-requires : goal.lifted-requires
 lifted-requires c = fit_lifts c.requires.fit

@@ -6,6 +6,7 @@ use Rattle.statement.proofs.start.define_head.Lts as lts
 use Rattle.head.proofs.definition.define_head.Reads as define-head-reads
 use Rattle.statement.proofs.lift.lifted.Reads as lifted-reads
 use Rattle.statement.proofs.start.define_head.Goals as goal
+
 -- src/start.rt:56:5
 pub lifted-requires : goal.lifted-requires
 lifted-requires c = fit_lifts c.requires.fit

@@ -6,6 +6,7 @@ use Rattle.statement.proofs.start.directive_head.Lts as lts
 use Rattle.head.proofs.directive.directive_expression.Reads as directive-expression-reads
 use Rattle.statement.proofs.lift.lifted.Reads as lifted-reads
 use Rattle.statement.proofs.start.directive_head.Goals as goal
+
 -- src/start.rt:119:5
 pub lifted-requires : goal.lifted-requires
 lifted-requires c = fit_lifts c.requires.fit

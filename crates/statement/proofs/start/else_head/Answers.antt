@@ -7,6 +7,7 @@ use Rattle.head.proofs.directive.else_head.Reads as else-head-reads
 use Rattle.statement.proofs.lift.lifted.Reads as lifted-reads
 use Rattle.trivia.proofs.multiline_trivia.Reads as multiline-trivia-reads
 use Rattle.statement.proofs.start.else_head.Goals as goal
+
 pub lifted-requires : goal.lifted-requires
 lifted-requires c = fit_lifts c.requires
 

@@ -6,6 +6,7 @@ use Rattle.statement.proofs.start.import_file.Lts as lts
 use Rattle.head.proofs.import.import_file.Reads as import-file-reads
 use Rattle.statement.proofs.lift.lifted.Reads as lifted-reads
 use Rattle.statement.proofs.start.import_file.Goals as goal
+
 -- src/start.rt:199:5
 pub lifted-requires : goal.lifted-requires
 lifted-requires c = fit_lifts c.requires

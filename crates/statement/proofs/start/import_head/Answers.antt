@@ -6,6 +6,7 @@ use Rattle.statement.proofs.start.import_head.Lts as lts
 use Rattle.head.proofs.import.import_head.Reads as import-head-reads
 use Rattle.statement.proofs.lift.lifted.Reads as lifted-reads
 use Rattle.statement.proofs.start.import_head.Goals as goal
+
 -- src/start.rt:36:5
 pub lifted-requires : goal.lifted-requires
 lifted-requires c = fit_lifts c.requires.fit

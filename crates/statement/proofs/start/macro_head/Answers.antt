@@ -6,6 +6,7 @@ use Rattle.statement.proofs.start.macro_head.Lts as lts
 use Rattle.head.proofs.definition.macro_head.Reads as macro-head-reads
 use Rattle.statement.proofs.lift.lifted.Reads as lifted-reads
 use Rattle.statement.proofs.start.macro_head.Goals as goal
+
 -- src/start.rt:76:5
 pub lifted-requires : goal.lifted-requires
 lifted-requires c = fit_lifts c.requires.fit

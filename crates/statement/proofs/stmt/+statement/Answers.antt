@@ -103,7 +103,7 @@ pub fourth-returns-in_default-r : goal.fourth-returns-in_default-r
 fourth-returns-in_default-r t c = fourth_is (does_next c.import-r.ensures c.in-Miss.st c.in-Miss.is (does_first (c.texts-r.ensures.does _) c.in_default-r.not-Miss))
 
 pub fourth-directive-r-requires : goal.fourth-directive-r-requires
-fourth-directive-r-requires t c = let h1 = fit_next c.import-r.ensures c.requires.fit fourth_sober.0 c.in-Miss.st c.in-Miss.is in let h2 = fit_next (c.texts-r.ensures.does []) h1 fourth_sober.1 c.in-Miss-r.st c.in-Miss-r.is in (omega (arith, c.before.before.before.before.before.before.before.before.before.before.before.before.before.before.before.before.before.before.before.before.before.before.before.before.before.before.before.before.before.before.before.requires.0), (h2, (c.requires.skips, omega arith, omega arith)))
+fourth-directive-r-requires t c = let h1 = fit_next c.import-r.ensures c.requires.fit fourth_sober.0 c.in-Miss.st c.in-Miss.is in let h2 = fit_next (c.texts-r.ensures.does []) h1 fourth_sober.1 c.in-Miss-r.st c.in-Miss-r.is in (omega arith, (h2, (c.requires.skips, omega arith, omega arith)))
 
 pub fourth-returns-in_default-r-2 : goal.fourth-returns-in_default-r-2
 fourth-returns-in_default-r-2 t c = fourth_is (does_next c.import-r.ensures c.in-Miss.st c.in-Miss.is (does_next (c.texts-r.ensures.does _) c.in-Miss-r.st c.in-Miss-r.is (does_first (test_is c.directive-r.ensures) c.in_default-r-2.not-Miss)))
@@ -130,7 +130,7 @@ pub import-overflow_sub-high : goal.import-overflow_sub-high
 import-overflow_sub-high t c = let f1 = fit_then (c.import_head-f.ensures.does 0 []) c.requires.fit import_paid c.in-Got.d c.in-Got.x c.in-Got.is in let g1 = grown_then (c.import_head-f.ensures.does 0 []) c.requires.fit import_paid c.in-Got.d c.in-Got.x c.in-Got.is in let f2 = fit_then (c.import_file-g.ensures.does 0 []) f1 quoted_paid c.in-Got-g.e c.in-Got-g.y c.in-Got-g.is in let g2 = grown_then (c.import_file-g.ensures.does 0 []) f1 quoted_paid c.in-Got-g.e c.in-Got-g.y c.in-Got-g.is in let m2 = moved_then (c.import_file-g.ensures.does 0 []) f1 quoted_moves c.in-Got-g.e c.in-Got-g.y c.in-Got-g.is in omega (arith, m2)
 
 pub import-maybe-h-requires : goal.import-maybe-h-requires
-import-maybe-h-requires t c = let f1 = fit_then (c.import_head-f.ensures.does 0 []) c.requires.fit import_paid c.in-Got.d c.in-Got.x c.in-Got.is in let g1 = grown_then (c.import_head-f.ensures.does 0 []) c.requires.fit import_paid c.in-Got.d c.in-Got.x c.in-Got.is in let f2 = fit_then (c.import_file-g.ensures.does 0 []) f1 quoted_paid c.in-Got-g.e c.in-Got-g.y c.in-Got-g.is in let g2 = grown_then (c.import_file-g.ensures.does 0 []) f1 quoted_paid c.in-Got-g.e c.in-Got-g.y c.in-Got-g.is in let m2 = moved_then (c.import_file-g.ensures.does 0 []) f1 quoted_moves c.in-Got-g.e c.in-Got-g.y c.in-Got-g.is in (omega (arith, c.before.before.before.before.before.before.before.before.before.before.before.before.before.before.before.before.before.before.before.before.before.before.before.before.before.before.before.before.before.before.before.requires.0), f2)
+import-maybe-h-requires t c = let f1 = fit_then (c.import_head-f.ensures.does 0 []) c.requires.fit import_paid c.in-Got.d c.in-Got.x c.in-Got.is in let g1 = grown_then (c.import_head-f.ensures.does 0 []) c.requires.fit import_paid c.in-Got.d c.in-Got.x c.in-Got.is in let f2 = fit_then (c.import_file-g.ensures.does 0 []) f1 quoted_paid c.in-Got-g.e c.in-Got-g.y c.in-Got-g.is in let g2 = grown_then (c.import_file-g.ensures.does 0 []) f1 quoted_paid c.in-Got-g.e c.in-Got-g.y c.in-Got-g.is in let m2 = moved_then (c.import_file-g.ensures.does 0 []) f1 quoted_moves c.in-Got-g.e c.in-Got-g.y c.in-Got-g.is in (omega arith, f2)
 
 pub import-returns-in_default-h : goal.import-returns-in_default-h
 import-returns-in_default-h t c = import_block_out (c.import_head-f.ensures.does _ _) c.in-Got.d c.in-Got.x c.in-Got.is (c.import_file-g.ensures.does _ _) c.in-Got-g.e c.in-Got-g.y c.in-Got-g.is c.maybe-h.ensures c.in_default-h.not-Got
@@ -220,13 +220,13 @@ pub second-returns-in_default-r : goal.second-returns-in_default-r
 second-returns-in_default-r t c = second_is (does_next c.macro_of-r.ensures c.in-Miss.st c.in-Miss.is (does_first (c.calls-r.ensures.does _) c.in_default-r.not-Miss))
 
 pub second-directive-r-requires : goal.second-directive-r-requires
-second-directive-r-requires t c = let h1 = fit_next c.macro_of-r.ensures c.requires.fit second_sober.0 c.in-Miss.st c.in-Miss.is in let h2 = fit_next (c.calls-r.ensures.does []) h1 second_sober.1 c.in-Miss-r.st c.in-Miss-r.is in (omega (arith, c.before.before.before.before.before.before.before.before.before.before.before.before.before.before.before.before.before.before.before.before.before.before.before.before.before.before.before.before.before.before.before.requires.0), (h2, (c.requires.skips, omega arith, omega arith)))
+second-directive-r-requires t c = let h1 = fit_next c.macro_of-r.ensures c.requires.fit second_sober.0 c.in-Miss.st c.in-Miss.is in let h2 = fit_next (c.calls-r.ensures.does []) h1 second_sober.1 c.in-Miss-r.st c.in-Miss-r.is in (omega arith, (h2, (c.requires.skips, omega arith, omega arith)))
 
 pub second-returns-in_default-r-2 : goal.second-returns-in_default-r-2
 second-returns-in_default-r-2 t c = second_is (does_next c.macro_of-r.ensures c.in-Miss.st c.in-Miss.is (does_next (c.calls-r.ensures.does _) c.in-Miss-r.st c.in-Miss-r.is (does_first (segment_is c.directive-r.ensures) c.in_default-r-2.not-Miss)))
 
 pub second-third-requires : goal.second-third-requires
-second-third-requires t c = let h1 = fit_next c.macro_of-r.ensures c.requires.fit second_sober.0 c.in-Miss.st c.in-Miss.is in let h2 = fit_next (c.calls-r.ensures.does []) h1 second_sober.1 c.in-Miss-r.st c.in-Miss-r.is in let h3 = fit_next (segment_is c.directive-r.ensures) h2 second_sober.2 c.in-Miss-r-2.st c.in-Miss-r-2.is in (omega (arith, c.before.before.before.before.before.before.before.before.before.before.before.before.before.before.before.before.before.before.before.before.before.before.before.before.before.before.before.before.before.before.before.before.before.before.before.before.before.before.before.before.before.before.before.before.requires.0), (h3, c.requires.skips))
+second-third-requires t c = let h1 = fit_next c.macro_of-r.ensures c.requires.fit second_sober.0 c.in-Miss.st c.in-Miss.is in let h2 = fit_next (c.calls-r.ensures.does []) h1 second_sober.1 c.in-Miss-r.st c.in-Miss-r.is in let h3 = fit_next (segment_is c.directive-r.ensures) h2 second_sober.2 c.in-Miss-r-2.st c.in-Miss-r-2.is in (omega arith, (h3, c.requires.skips))
 
 pub second-returns : goal.second-returns
 second-returns t c = second_is (does_next c.macro_of-r.ensures c.in-Miss.st c.in-Miss.is (does_next (c.calls-r.ensures.does _) c.in-Miss-r.st c.in-Miss-r.is (does_next (segment_is c.directive-r.ensures) c.in-Miss-r-2.st c.in-Miss-r-2.is c.third.ensures)))
@@ -235,7 +235,7 @@ pub statement-returns-in_default : goal.statement-returns-in_default
 statement-returns-in_default t c = statement_is (does_first c.braces-r.ensures c.in_default.not-Miss)
 
 pub statement-label-r-requires : goal.statement-label-r-requires
-statement-label-r-requires t c = let h1 = fit_next c.braces-r.ensures c.requires first_sober.0 c.in-Miss.st c.in-Miss.is in (omega (arith, c.before.before.before.before.before.before.before.before.before.before.before.before.before.before.before.before.before.before.before.before.before.before.requires.0), (h1, c.multiline_trivia-k.ensures))
+statement-label-r-requires t c = let h1 = fit_next c.braces-r.ensures c.requires first_sober.0 c.in-Miss.st c.in-Miss.is in (omega arith, (h1, c.multiline_trivia-k.ensures))
 
 pub statement-returns-in_default-r : goal.statement-returns-in_default-r
 statement-returns-in_default-r t c = statement_is (does_next c.braces-r.ensures c.in-Miss.st c.in-Miss.is (does_first c.label-r.ensures c.in_default-r.not-Miss))
@@ -247,7 +247,7 @@ pub statement-returns-in_default-r-2 : goal.statement-returns-in_default-r-2
 statement-returns-in_default-r-2 t c = statement_is (does_next c.braces-r.ensures c.in-Miss.st c.in-Miss.is (does_next c.label-r.ensures c.in-Miss-r.st c.in-Miss-r.is (does_first (c.instructions-r.ensures.does _) c.in_default-r-2.not-Miss)))
 
 pub statement-second-requires : goal.statement-second-requires
-statement-second-requires t c = let h1 = fit_next c.braces-r.ensures c.requires first_sober.0 c.in-Miss.st c.in-Miss.is in let h2 = fit_next c.label-r.ensures h1 first_sober.1 c.in-Miss-r.st c.in-Miss-r.is in let h3 = fit_next (c.instructions-r.ensures.does []) h2 first_sober.2 c.in-Miss-r-2.st c.in-Miss-r-2.is in (omega (arith, c.before.before.before.before.before.before.before.before.before.before.before.before.before.before.before.before.before.before.before.before.before.before.before.before.before.before.before.before.before.before.before.before.before.before.before.before.before.before.before.before.before.before.before.before.before.requires.0), (h3, c.multiline_trivia-k.ensures))
+statement-second-requires t c = let h1 = fit_next c.braces-r.ensures c.requires first_sober.0 c.in-Miss.st c.in-Miss.is in let h2 = fit_next c.label-r.ensures h1 first_sober.1 c.in-Miss-r.st c.in-Miss-r.is in let h3 = fit_next (c.instructions-r.ensures.does []) h2 first_sober.2 c.in-Miss-r-2.st c.in-Miss-r-2.is in (omega arith, (h3, c.multiline_trivia-k.ensures))
 
 pub statement-returns : goal.statement-returns
 statement-returns t c = statement_is (does_next c.braces-r.ensures c.in-Miss.st c.in-Miss.is (does_next c.label-r.ensures c.in-Miss-r.st c.in-Miss-r.is (does_next (c.instructions-r.ensures.does _) c.in-Miss-r-2.st c.in-Miss-r-2.is c.second.ensures)))
@@ -256,7 +256,7 @@ pub third-returns-in_default : goal.third-returns-in_default
 third-returns-in_default t c = third_is (does_first (loop_is c.directive-r.ensures) c.in_default.not-Miss)
 
 pub third-directive-r-requires-2 : goal.third-directive-r-requires-2
-third-directive-r-requires-2 t c = let h1 = fit_next (loop_is c.directive-r.ensures) c.requires.fit third_sober.0 c.in-Miss.st c.in-Miss.is in (omega (arith, c.before.before.before.before.before.before.before.before.before.before.before.before.before.before.before.before.before.before.before.before.before.before.requires.0), (h1, (c.requires.skips, omega arith, omega arith)))
+third-directive-r-requires-2 t c = let h1 = fit_next (loop_is c.directive-r.ensures) c.requires.fit third_sober.0 c.in-Miss.st c.in-Miss.is in (omega arith, (h1, (c.requires.skips, omega arith, omega arith)))
 
 pub third-returns-in_default-r : goal.third-returns-in_default-r
 third-returns-in_default-r t c = third_is (does_next (loop_is c.directive-r.ensures) c.in-Miss.st c.in-Miss.is (does_first (if_is c.directive-r-2.ensures) c.in_default-r.not-Miss))
@@ -268,7 +268,7 @@ pub third-returns-in_default-r-2 : goal.third-returns-in_default-r-2
 third-returns-in_default-r-2 t c = third_is (does_next (loop_is c.directive-r.ensures) c.in-Miss.st c.in-Miss.is (does_next (if_is c.directive-r-2.ensures) c.in-Miss-r.st c.in-Miss-r.is (does_first (c.align-r.ensures.does _) c.in_default-r-2.not-Miss)))
 
 pub third-fourth-requires : goal.third-fourth-requires
-third-fourth-requires t c = let h1 = fit_next (loop_is c.directive-r.ensures) c.requires.fit third_sober.0 c.in-Miss.st c.in-Miss.is in let h2 = fit_next (if_is c.directive-r-2.ensures) h1 third_sober.1 c.in-Miss-r.st c.in-Miss-r.is in let h3 = fit_next (c.align-r.ensures.does []) h2 third_sober.2 c.in-Miss-r-2.st c.in-Miss-r-2.is in (omega (arith, c.before.before.before.before.before.before.before.before.before.before.before.before.before.before.before.before.before.before.before.before.before.before.before.before.before.before.before.before.before.before.before.before.before.before.before.before.before.before.before.before.before.before.before.before.before.requires.0), (h3, c.requires.skips))
+third-fourth-requires t c = let h1 = fit_next (loop_is c.directive-r.ensures) c.requires.fit third_sober.0 c.in-Miss.st c.in-Miss.is in let h2 = fit_next (if_is c.directive-r-2.ensures) h1 third_sober.1 c.in-Miss-r.st c.in-Miss-r.is in let h3 = fit_next (c.align-r.ensures.does []) h2 third_sober.2 c.in-Miss-r-2.st c.in-Miss-r-2.is in (omega arith, (h3, c.requires.skips))
 
 pub third-returns : goal.third-returns
 third-returns t c = third_is (does_next (loop_is c.directive-r.ensures) c.in-Miss.st c.in-Miss.is (does_next (if_is c.directive-r-2.ensures) c.in-Miss-r.st c.in-Miss-r.is (does_next (c.align-r.ensures.does _) c.in-Miss-r-2.st c.in-Miss-r-2.is c.fourth.ensures)))

@@ -7,6 +7,7 @@ use Rattle.lexis.proofs.mark.row.Reads as row_reads
 use Rattle.statement.proofs.lift.lifted.Reads as lifted-reads
 use Rattle.trivia.proofs.multiline_trivia.Reads as multiline-trivia-reads
 use Rattle.statement.proofs.text.eof.Goals as goal
+
 -- src/text.rt:80:5
 pub lifted-requires : goal.lifted-requires
 lifted-requires c = fit_lifts c.requires

@@ -11,6 +11,7 @@ use Rattle.state.proofs.report.Reads as report-reads
 use Rattle.statement.proofs.lift.lifted.Reads as lifted-reads
 use Rattle.trivia.proofs.multiline_trivia.Reads as multiline-trivia-reads
 use Rattle.statement.proofs.text.error_text.Goals as goal
+
 -- src/text.rt:36:9
 pub lifted-r-requires : goal.lifted-r-requires
 lifted-r-requires c = fit_lifts c.requires.fit
