@@ -7,7 +7,7 @@ use Rattle.share.specs.declared.SharesFound.{SharesFound}
 use Rattle.share.specs.declared.SharesAnswer.{SharesAnswer}
 use Rattle.share.specs.declared.SharesAnswer.TheVariants.{Found, TooManyTexts, WrongText}
 use Rattle.share.specs.declared.TextAnswer.{TextAnswer}
-use Rattle.share.specs.declared.TextAnswer.TheVariants.{Words as words, NoSubtree, NoRoom, WrongText as wrong-text}
+use Rattle.share.specs.declared.TextAnswer.TheVariants.{Words as words, NoSubtree, NoRoom, WrongText as wrong_text}
 
 abbrev pub found_shares : SharesFound → Shares
 found_shares x =
@@ -22,7 +22,7 @@ abbrev pub told_text : TextAnswer → Answer Text
 told_text (words x) = answered (record { trivia = x.trivia; length = x.length })
 told_text (NoSubtree n) = refused 13 n
 told_text (NoRoom n) = refused 6 n
-told_text wrong-text = refused 28 0
+told_text wrong_text = refused 28 0
 
 abbrev pub told_words : TextAnswer → List ℕ → Told
 told_words a t = record { answer = told_text a; table = t }

@@ -30,7 +30,7 @@ use Rattle.share.specs.Words.{Told}
 use Rattle.share.specs.declared.SharesAnswer.{SharesAnswer}
 use Rattle.share.specs.declared.SharesAnswer.TheVariants.{Found, TooManyTexts, WrongText}
 use Rattle.share.specs.declared.TextAnswer.{TextAnswer}
-use Rattle.share.specs.declared.TextAnswer.TheVariants.{Words, NoSubtree as no-subtree, NoRoom as no_room, WrongText as wrong-text}
+use Rattle.share.specs.declared.TextAnswer.TheVariants.{Words, NoSubtree as no_subtree, NoRoom as no_room, WrongText as wrong_text}
 use Rattle.vireopatch.specs.Seen.{Seen, seen, exported, base_numbered, value_in, seen_value, exported_value, SeenItems, seen_items, exported_items, SeenWalk, seen_walk, exported_walk, SeenShares, seen_shares, exported_shares, SeenWords, seen_words, exported_words}
 use Rattle.vireopatch.specs.Numbers.{numbered, numbered_value, numbered_items, numbered_walk, numbered_shares, numbered_words}
 use Rattle.vireopatch.specs.declared.ReadNumbers.{ReadNumbers}
@@ -141,9 +141,9 @@ words_seen x t = seen_words x.code t x.trivia x.length x.given
 words_numbers_shown : (r : TextAnswer) (t : List ℕ) → words_seen (numbered_words r) t ≡ exported_words (told_words r t)
 unfolding exported_words
 words_numbers_shown (Words x) t = refl
-words_numbers_shown (no-subtree n) t = refl
+words_numbers_shown (no_subtree n) t = refl
 words_numbers_shown (no_room n) t = refl
-words_numbers_shown wrong-text t = refl
+words_numbers_shown wrong_text t = refl
 
 pub words_shown : (r : TextAnswer) (t : List ℕ) (o : Told) (x : WordsNumbers) → told_words r t ≡ o → x ≡ numbered_words r
     → seen_words x.code t x.trivia x.length x.given ≡ exported_words o

@@ -11,7 +11,7 @@ use Rattle.table.specs.declared.Walked.TheVariants.{Subtree, NoSubtree}
 use Rattle.share.specs.declared.SharesAnswer.{SharesAnswer}
 use Rattle.share.specs.declared.SharesAnswer.TheVariants.{Found, TooManyTexts, WrongText}
 use Rattle.share.specs.declared.TextAnswer.{TextAnswer}
-use Rattle.share.specs.declared.TextAnswer.TheVariants.{Words, NoSubtree as no-subtree, NoRoom as no_room, WrongText as wrong-text}
+use Rattle.share.specs.declared.TextAnswer.TheVariants.{Words, NoSubtree as no_subtree, NoRoom as no_room, WrongText as wrong_text}
 use Rattle.vireopatch.specs.declared.ReadNumbers.{ReadNumbers}
 use Rattle.vireopatch.specs.declared.ValueNumbers.{ValueNumbers}
 use Rattle.vireopatch.specs.declared.ItemNumbers.{ItemNumbers}
@@ -74,6 +74,6 @@ no_words c g = record { code = c; trivia = 0; length = 0; given = g }
 
 abbrev pub numbered_words : TextAnswer → WordsNumbers
 numbered_words (Words x) = record { code = 0; trivia = x.trivia; length = x.length; given = 0 }
-numbered_words (no-subtree g) = no_words 13 g
+numbered_words (no_subtree g) = no_words 13 g
 numbered_words (no_room g) = no_words 6 g
-numbered_words wrong-text = no_words 28 0
+numbered_words wrong_text = no_words 28 0

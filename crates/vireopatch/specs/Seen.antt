@@ -10,7 +10,7 @@ use Rattle.share.specs.Shares.{Shares}
 use Rattle.share.specs.Words.{Text, Told}
 pub use Rattle.parser.specs.Seen.{code_of, given_of, counts_of, Seen, seen}
 unfoldable pub use Rattle.parser.specs.Seen.{exported}
-unfoldable pub use Rattle.number.specs.Answers.{base-numbered}
+unfoldable pub use Rattle.number.specs.Answers.{base_numbered}
 
 -- Number text to value ------------------------------------------------------
 
