@@ -9,7 +9,7 @@ use borrow.Author.Tests.{lt-ltb, ltb-true, ltb-false}
 use lib.Dec.{ltb, leb, eqb, eqb-suc-zero}
 use lib.ListN.{length, get_or, drop, drop_of_length-le}
 use Rattle.reading.specs.Table.{Answer, answered, refused}
-use Rattle.reading.specs.Number.{Base, hexadecimal, decimal, binary, radix, is_digit, digit_value, all_digits, value_from, digits_value}
+use Rattle.reading.specs.Number.{Base, hexadecimal, decimal, binary, radix, digit_value, all_digits, value_from, digits_value}
 use Rattle.number.specs.Steps.{digit_or_none, limit, capped, decided}
 use Rattle.number.proofs.Bytes.{is_one, is_none}
 use Rattle.cursor.proofs.Places.{cons}

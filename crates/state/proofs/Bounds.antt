@@ -7,7 +7,7 @@ use Prim.Native.Nat.{ℕ, zero, suc, ◌+◌, ◌*◌, ◌≤◌, ◌<◌}
 use native.Mathlib.Omega.{arith}
 use lib.Dec.{T as Passes, leb→le}
 use lib.ListN.{length, length-drop}
-use Rattle.reading.specs.Grammar.{Rows, State, Request, Reply, err, Parser, error_at, parse}
+use Rattle.reading.specs.Grammar.{Rows, State, Request, Reply, Parser, error_at, parse}
 use Rattle.reading.proofs.Ahead.{Ahead, On, ahead}
 use Rattle.reading.proofs.Fuel.{reads_on}
 use Rattle.reading.proofs.Cost.{paid, cost, slim, Few, slimly, reads_slim, all_four}

@@ -8,7 +8,7 @@ use borrow.Author.Tests.{le-ltb}
 use lib.Dec.{T}
 use lib.ListN.{length, drop, length-drop}
 use Rattle.reading.specs.Grammar.{Rows, State, Parser, parse}
-use Rattle.reading.specs.Summary.{Summary, fits, fails, noted, touched, applied, scan}
+use Rattle.reading.specs.Summary.{Summary, fits, fails, touched, applied, scan}
 use Rattle.reading.proofs.Tests.{quiet}
 use Rattle.reading.proofs.Quiet.{parse_quiet}
 use Rattle.reading.proofs.Trees.{reported_peak}

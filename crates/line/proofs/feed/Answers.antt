@@ -1,9 +1,9 @@
 use Prim.Native.Nat.{◌+◌}
 use mathlib.Core.Path.{sym}
 use native.Mathlib.Omega.{arith}
-use borrow.Author.Rules.{rules}
 use Rattle.line.proofs.Lines.{line_over, line_on, line_end}
 use Rattle.line.proofs.feed.Goals as goal
+
 pub returns-then-text-at-eq10 : goal.returns-then-text-at-eq10
 returns-then-text-at-eq10 c = sym (line_over _ _ c.if-text-at-eq10.true)
 

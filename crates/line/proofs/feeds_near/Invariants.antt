@@ -1,10 +1,7 @@
 -- The invariant: so many line feeds lead from the first place to this one, no more than there are bytes between.
-use mathlib.Core.Path.{◌≡◌, ap}
-use mathlib.Core.Logic.{inl, inr}
+use mathlib.Core.Path.{◌≡◌}
 use Prim.Native.Nat.{◌+◌, ◌-◌, ◌≤◌}
-use native.Mathlib.Omega.{arith}
 use Rattle.reading.specs.Table.{line}
-use Rattle.line.proofs.Lines.{line_over, line_on}
 use Rattle.line.proofs.feeds_near.Given as goal
 
 abbrev pub invariant-loop-i : goal.invariant-loop-i

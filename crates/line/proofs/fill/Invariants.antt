@@ -1,17 +1,16 @@
 -- The invariant: the rows before row m have their lines, whatever the text.
-use mathlib.Core.Path.{◌≡◌, refl, sym}
+use mathlib.Core.Path.{◌≡◌}
 use mathlib.Core.List.{List}
-use Prim.Native.Nat.{ℕ, ◌+◌, ◌*◌, ◌-◌, ◌≤◌, ◌<◌}
-use native.Mathlib.Omega.{arith}
-use lib.ListN.{length, length-set}
-use Rattle.reading.specs.Table.{row_width, low_column}
+use Prim.Native.Nat.{ℕ, ◌+◌, ◌-◌, ◌≤◌, ◌<◌}
+use lib.ListN.{length}
 use Rattle.line.specs.Lines.{lined}
 use Rattle.line.specs.Marks.{On}
-use Rattle.line.proofs.Fills.{lined_more}
 use Rattle.line.proofs.fill.Given as goal
 
 abbrev pub invariant-loop-m : goal.invariant-loop-m
-invariant-loop-m l = (l.n < l.m) × (l.m ≤ l.count) × (length l.rows ≡ length l.initial.rows) × ((s t : List ℕ) → On s l.here → l.initial.rows ≡ lined s t (l.n + 1) → l.rows ≡ lined s t l.m)
+invariant-loop-m l =
+    (l.n < l.m) × (l.m ≤ l.count) × (length l.rows ≡ length l.initial.rows)
+    × ((s t : List ℕ) → On s l.here → l.initial.rows ≡ lined s t (l.n + 1) → l.rows ≡ lined s t l.m)
 
 abbrev pub decreases-loop-m : goal.decreases-loop-m
 decreases-loop-m l = l.count - l.m

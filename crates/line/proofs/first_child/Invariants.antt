@@ -1,6 +1,4 @@
 -- Each turn has fewer rows before it.
-use native.Mathlib.Omega.{arith}
-use borrow.Author.Rules.{rules}
 use Rattle.line.proofs.first_child.Given as goal
 
 abbrev pub invariant-loop-c : goal.invariant-loop-c

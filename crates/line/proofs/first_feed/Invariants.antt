@@ -1,9 +1,6 @@
 -- The invariant: as far as the bytes looked at and the first line feed among them go, all is one line.
 use Prim.Native.Nat.{◌-◌, ◌≤◌}
-use mathlib.Core.Path.{◌≡◌}
-use mathlib.Core.Logic.{inl, inr}
-use native.Mathlib.Omega.{arith}
-use Rattle.line.proofs.Lines.{Clear, clear_none, clear_more}
+use Rattle.line.proofs.Lines.{Clear}
 use Rattle.line.proofs.first_feed.Given as goal
 
 abbrev pub invariant-loop-j : goal.invariant-loop-j

@@ -1,13 +1,8 @@
--- The invariant: so many line feeds lead from the first place to this one.
-use mathlib.Core.Path.{◌≡◌, sym, ◌∙◌}
-use mathlib.Core.Logic.{◌⊎◌, inl, inr}
-use Prim.Native.Nat.{◌+◌, ◌-◌, ◌≤◌}
+use mathlib.Core.Path.{sym, ◌∙◌}
 use native.Mathlib.Omega.{arith}
-use lib.ListN.{length}
-use borrow.Author.Rules.{rules}
-use Rattle.reading.specs.Table.{line}
 use Rattle.line.proofs.Lines.{line_bound, line_reached}
 use Rattle.line.proofs.line_feeds.Goals as goal
+
 pub overflow_add-n : goal.overflow_add-n
 overflow_add-n c = omega (arith, line_bound c.args.text.now c.if-end-i-lt-RUN.stop, c.feeds_near.ensures, c.loop-i.invariant.4, c.requires.0)
 

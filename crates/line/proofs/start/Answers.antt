@@ -1,5 +1,5 @@
-use borrow.Author.Rules.{rules}
 use Rattle.line.proofs.Stretches.{start_on}
 use Rattle.line.proofs.start.Goals as goal
+
 pub returns : goal.returns
 returns c = start_on c.clear_end.ensures.1

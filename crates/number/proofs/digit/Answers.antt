@@ -1,7 +1,5 @@
 -- The tests are those of `digit_or_none`.
-use native.Mathlib.Omega.{arith}
 use Rattle.number.specs.Steps.{digit_or_none}
-use Rattle.number.proofs.Bytes.{at_least}
 use Rattle.number.proofs.digit.Goals as goal
 
 pub returns-then-b : goal.returns-then-b

@@ -1,10 +1,6 @@
--- What was read, with the bytes that are left behind it, is answered as the whole text.
 use mathlib.Core.Path.{◌∙◌}
-use Prim.Native.Nat.{◌-◌}
-use native.Mathlib.Omega.{arith}
-use lib.ListN.{length}
 use Rattle.number.specs.Answers.{base_of}
-use Rattle.number.proofs.Totals.{radix_pos, Left, left_all, left_next, left_none}
+use Rattle.number.proofs.Totals.{left_all, left_next, left_none}
 use Rattle.number.proofs.digits.Goals as goal
 
 pub loop-i-init : goal.loop-i-init
@@ -12,11 +8,8 @@ loop-i-init c = left_all _ _
 
 pub loop-i-preserved : goal.loop-i-preserved
 loop-i-preserved c =
-    left_next c.loop-i.invariant c.loop-i-test.true
-    (c.type_inv.text c.loop-i.i).fits
-    c.digit-d.ensures c.followed-total.ensures
+    left_next c.loop-i.invariant c.loop-i-test.true (c.type_inv.text c.loop-i.i).fits c.digit-d.ensures c.followed-total.ensures
 
 pub returns : goal.returns
 returns c =
-    c.verdict.ensures
-    ∙ left_none c.loop-i.invariant c.loop-i-test.false (base_of c.args.ty) c.base-base.ensures
+    c.verdict.ensures ∙ left_none c.loop-i.invariant c.loop-i-test.false (base_of c.args.ty) c.base-base.ensures

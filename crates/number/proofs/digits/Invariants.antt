@@ -1,10 +1,7 @@
 -- What was read, with the bytes that are left behind it, is answered as the whole text.
-use mathlib.Core.Path.{◌∙◌}
 use Prim.Native.Nat.{◌-◌}
-use native.Mathlib.Omega.{arith}
 use lib.ListN.{length}
-use Rattle.number.specs.Answers.{base_of}
-use Rattle.number.proofs.Totals.{radix_pos, Left, left_all, left_next, left_none}
+use Rattle.number.proofs.Totals.{Left}
 use Rattle.number.proofs.digits.Given as goal
 
 abbrev pub invariant-loop-i : goal.invariant-loop-i

@@ -1,6 +1,5 @@
 -- As long as the word, and beginning with it.
 use mathlib.Core.Path.{sym, ◌∙◌}
-use borrow.Author.Rules.{rules}
 use native.Mathlib.Omega.{arith}
 use Rattle.number.proofs.Words.{whole, lengths}
 use Rattle.number.proofs.is_word.Goals as goal

@@ -1,21 +1,13 @@
 use Rattle.state.proofs.Reports.{note_none, note_lost, note_made}
-use borrow.Author.Rules.{rules}
-use Rattle.state.proofs.note.Reads as reads
-use Rattle.state.proofs.note.Lts as lts
-use Rattle.table.proofs.push_error.Reads as push-error-reads
 use Rattle.state.proofs.note.Goals as goal
 
--- src/lib.rt:42:9
 pub returns-then-not-met : goal.returns-then-not-met
 returns-then-not-met c = note_none _ _ _ _ c.if-not-met.true-raw
 
--- src/lib.rt:46:9
 pub returns-then-st : goal.returns-then-st
 returns-then-st c = note_lost _ _ _ _ c.if-not-met.false-raw c.if-st.true
 
--- src/lib.rt:37:1
 pub returns : goal.returns
 returns c =
     let args = c.args in
-    note_made args.end.0 args.met args.st _ c.if-not-met.false-raw c.if-st.false
-    c.push_error.ensures
+    note_made args.end.0 args.met args.st _ c.if-not-met.false-raw c.if-st.false c.push_error.ensures

@@ -2,11 +2,9 @@
 use Prim.Native.Nat.{ℕ, ◌+◌, ◌*◌, ◌/◌, ◌≤◌, ◌<◌}
 use native.Mathlib.Numerals.{towards_suc}
 use native.Mathlib.Omega.{arith}
-use lib.ListN.{length-set}
 use borrow.Author.Tests.{lt-ltb, le-ltb}
 use Rattle.reading.specs.Table.{row_width}
 use Rattle.table.specs.Words.{pushed}
-use borrow.Author.Rules.{rules}
 use Rattle.table.proofs.push_row.Goals as goal
 
 -- the code's tests, and the definition's, which divides
@@ -15,6 +13,7 @@ behind h = omega (arith, h)
 
 inside : {m n : ℕ} → n * row_width + row_width ≤ m → n < m / row_width
 inside h = omega (arith, h)
+
 pub returns-then-i-rows : goal.returns-then-i-rows
 unfolding pushed
 returns-then-i-rows c = simp (lt-ltb _ _ (inside c.if-i-rows.true), towards_suc)

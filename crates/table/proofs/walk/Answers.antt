@@ -1,11 +1,8 @@
 -- Each test of the code is one of the definition's.
-use Prim.Native.Nat.{◌+◌, ◌*◌, ◌-◌}
-use native.Mathlib.Omega.{arith}
 use borrow.Author.Tests.{eq-eqb, ne_eqb, lt-ltb, le-ltb}
-use Rattle.reading.specs.Table.{row_width, size_column}
 use Rattle.reading.specs.Walk.{walk}
-use borrow.Author.Rules.{rules}
 use Rattle.table.proofs.walk.Goals as goal
+
 pub returns-then-count-eq0 : goal.returns-then-count-eq0
 unfolding walk
 returns-then-count-eq0 c = simp (eq-eqb _ _ c.if-count-eq0.true)
@@ -20,7 +17,8 @@ returns-then-size-eq0 c = simp (ne_eqb _ _ c.if-count-eq0.false, le-ltb _ _ c.if
 
 pub returns-then-count-size : goal.returns-then-count-size
 unfolding walk
-returns-then-count-size c = simp (ne_eqb _ _ c.if-count-eq0.false, le-ltb _ _ c.if-rows-count.false, ne_eqb _ _ c.if-size-eq0.false, lt-ltb _ _ c.if-count-size.true)
+returns-then-count-size c =
+    simp (ne_eqb _ _ c.if-count-eq0.false, le-ltb _ _ c.if-rows-count.false, ne_eqb _ _ c.if-size-eq0.false, lt-ltb _ _ c.if-count-size.true)
 
 pub returns : goal.returns
 unfolding walk

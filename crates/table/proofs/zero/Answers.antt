@@ -1,9 +1,7 @@
--- The invariant: zeroing these words from i on gives what zeroing the first ones from `from` on gives.
-use Prim.Native.Nat.{◌-◌}
-use mathlib.Core.Path.{◌≡◌, refl, sym, ◌∙◌}
-use native.Mathlib.Omega.{arith}
-use lib.ListN.{length, length-set}
-use Rattle.table.proofs.Zeros.{zeroed, zeroed_set, zeroed_end}
+use mathlib.Core.Path.{◌∙◌}
+use lib.ListN.{length-set}
+use Rattle.table.proofs.Zeros.{zeroed_set}
 use Rattle.table.proofs.zero.Goals as goal
+
 pub loop-i-preserved : goal.loop-i-preserved
 loop-i-preserved c = (simp length-set c.loop-i.invariant.0, zeroed_set _ _ c.loop-i-test.true ∙ c.loop-i.invariant.1)

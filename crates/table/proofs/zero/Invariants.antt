@@ -1,9 +1,8 @@
 -- The invariant: zeroing these words from i on gives what zeroing the first ones from `from` on gives.
 use Prim.Native.Nat.{◌-◌}
-use mathlib.Core.Path.{◌≡◌, refl, sym, ◌∙◌}
-use native.Mathlib.Omega.{arith}
-use lib.ListN.{length, length-set}
-use Rattle.table.proofs.Zeros.{zeroed, zeroed_set, zeroed_end}
+use mathlib.Core.Path.{◌≡◌}
+use lib.ListN.{length}
+use Rattle.table.proofs.Zeros.{zeroed}
 use Rattle.table.proofs.zero.Given as goal
 
 abbrev pub invariant-loop-i : goal.invariant-loop-i

@@ -1,13 +1,9 @@
--- `word::begins` meets its contract. The loop's invariant: what is left of the word is to be compared with the text behind `at + i`.
+-- `word::begins` meets its contract.
 -- Assumes nothing.
-use mathlib.Core.Path.{◌≡◌, ap, sym, ◌∙◌}
-use mathlib.Core.List.{List}
-use Prim.Native.Nat.{ℕ, ◌+◌, ◌-◌, ◌≤◌}
+use mathlib.Core.Path.{sym}
 use native.Mathlib.Omega.{arith}
-use native.Mathlib.Nat.{add-zero, add_assoc}
-use lib.ListN.{length, drop, length-drop, drop_of_length-le}
-use Rattle.reading.specs.Byte.{begins_no_case}
-use Rattle.word.proofs.Picks.{too_long, differs, agrees}
+use lib.ListN.{drop, length-drop}
+use Rattle.word.proofs.Picks.{too_long}
 use Rattle.word.proofs.begins.Goals as goal
 
 pub returns-then-s-at : goal.returns-then-s-at

@@ -1,13 +1,8 @@
--- `word::begins` meets its contract. The loop's invariant: what is left of the word is to be compared with the text behind `at + i`.
--- Assumes nothing.
-use mathlib.Core.Path.{◌≡◌, ap, sym, ◌∙◌}
-use mathlib.Core.List.{List}
-use Prim.Native.Nat.{ℕ, ◌+◌, ◌-◌, ◌≤◌}
-use native.Mathlib.Omega.{arith}
-use native.Mathlib.Nat.{add-zero, add_assoc}
-use lib.ListN.{length, drop, length-drop, drop_of_length-le}
+-- The loop's invariant: what is left of the word is to be compared with the text behind `at + i`.
+use mathlib.Core.Path.{◌≡◌}
+use Prim.Native.Nat.{◌+◌, ◌-◌, ◌≤◌}
+use lib.ListN.{length, drop}
 use Rattle.reading.specs.Byte.{begins_no_case}
-use Rattle.word.proofs.Picks.{too_long, differs, agrees}
 use Rattle.word.proofs.begins.Given as goal
 
 abbrev pub invariant-loop-i : goal.invariant-loop-i

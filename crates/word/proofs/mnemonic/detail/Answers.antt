@@ -4,7 +4,6 @@ use mathlib.Core.Path.{ap, sym, ◌∙◌}
 use Prim.Native.Nat.{◌/◌, ◌%◌}
 use Rattle.word.specs.Words.{mnemonic_list}
 use Rattle.word.proofs.Hashes.{mnemonics_tidy, there, not_there}
-use borrow.Author.Rules.{rules}
 use Rattle.word.proofs.mnemonic.detail.Goals as goal
 
 pub returns-then-e-letters : goal.returns-then-e-letters
