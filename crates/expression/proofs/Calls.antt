@@ -6,7 +6,7 @@ use Prim.Native.Nat.{ℕ, ◌+◌, ◌-◌, ◌≤◌}
 use native.Mathlib.Omega.{arith}
 use lib.ListN.{length}
 use Rattle.reading.specs.Kind.{parensᵏ, callᵏ}
-use Rattle.reading.specs.Grammar.{expr, rule, ◌▸◌, bracket}
+use Rattle.reading.specs.Grammar.{expr, rule, ◌▸◌}
 use Rattle.reading.specs.Rules.{opt, trivia, arg_list, expression_arg, call_args, call_parens, mname, fn_call, closed_expression, expression_parens, expression}
 use Rattle.table.specs.Words.{replaced}
 use Rattle.cursor.specs.Text.{cursor, Skips}

@@ -8,8 +8,8 @@ use lib.Dec.{T, ltb}
 use lib.ListN.{length}
 use Rattle.reading.specs.Byte.{is}
 use Rattle.reading.specs.Kind.{charᵏ}
-use Rattle.reading.specs.Grammar.{Row, Rows, Input, Rule, Leaf, one, Parser, empty, ◌▸◌, ◌or◌, never, many0, leaf, rule, unterminated, node, pick, over, scoped, import, argument, chain, bracket, braced, complain, expect}
-use Rattle.reading.specs.Grammar.{joined, under, first_low, behind, one_of, taken, always}
+use Rattle.reading.specs.Grammar.{Row, Rows, Input, Rule, Leaf, Parser, empty, ◌▸◌, ◌or◌, never, many0, leaf, rule, unterminated, node, pick, over, scoped, import, argument, chain, bracket, braced, complain, expect}
+use Rattle.reading.specs.Grammar.{joined, under, first_low, one_of, taken, always}
 use Rattle.reading.specs.Rules.{all_rules, opt, flags, minus, trivia, expression_factor_inner}
 use Rattle.reading.specs.Summary.{Summary, fits, fails, elseˢ, turnedˢ, last_roundˢ, gateˢ, next_roundˢ, thenˢ, Scan, roundsˢ, takeˢ, char_atˢ, pickedˢ, pick_wordˢ, scan}
 use Rattle.reading.proofs.Bool.{and_left, and_right}

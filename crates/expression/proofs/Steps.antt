@@ -11,7 +11,6 @@ use Rattle.reading.specs.Rules.{trivia}
 use Rattle.reading.specs.Summary.{fits, scan}
 use Rattle.reading.proofs.Tests.{quiet}
 use Rattle.reading.proofs.Settled.{trivia_twice}
-use Rattle.table.specs.Words.{pushed}
 use Rattle.cursor.specs.Text.{here, cursor, skip, Skips}
 use Rattle.cursor.specs.Agree.{full, Reading, Reads, Leafs, Ready}
 use Rattle.cursor.specs.declared.Cursor.{Cursor}

@@ -12,7 +12,7 @@ use borrow.Author.Tests.{eq-eqb}
 use lib.ListN.{length, drop, length-drop}
 use Rattle.reading.specs.Byte.{is, given}
 use Rattle.reading.specs.Kind.{operandᵏ, factorᵏ, parensᵏ, charᵏ}
-use Rattle.reading.specs.Grammar.{Rows, Input, Rule, expr, Parser, empty, ◌▸◌, ◌or◌, never, over, chain, bracket, under, first_low, folded, behind, one_of}
+use Rattle.reading.specs.Grammar.{Rows, Input, Rule, expr, Parser, empty, ◌▸◌, ◌or◌, never, over, chain, bracket, under, first_low, folded, one_of}
 use Rattle.reading.specs.Rules.{opt, char, trivia, number, fn_call, identifier_value, current_pc, closed_expression, expression_parens, interpolated_string_factor}
 use Rattle.reading.specs.Rules.{expression_factor_inner, flags, factor_body, expression_factor, term_operator, expression_term, expression_operator, expression}
 use Rattle.reading.specs.Rules.{optional_suffix, am_ind, am_outer_ind, am_abs}

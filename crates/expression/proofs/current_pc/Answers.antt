@@ -5,28 +5,18 @@ use Rattle.expression.proofs.Steps.{around_fits, ready_step}
 use native.Mathlib.Omega.{arith}
 use lib.Dec.{lit<}
 use Rattle.cursor.proofs.Laws.{stepped}
-use Rattle.cursor.proofs.Agree.{not_got}
-use borrow.Author.Rules.{rules}
-use Rattle.expression.proofs.current_pc.Reads as reads
-use Rattle.expression.proofs.current_pc.Lts as lts
-use Rattle.expression.proofs.around.Reads as around-reads
-use Rattle.lexis.proofs.mark.char.Reads as char-reads
 use Rattle.expression.proofs.current_pc.Goals as goal
 
--- src/lib.rt:125:9
 pub returns-in_default : goal.returns-in_default
 returns-in_default c =
-    pc_out c.args.c c.requires.ready.within ((c.char-f.ensures.leafs trivia c.requires.skips)) (c.in_default.not-Got)
+    pc_out c.args.c c.requires.ready.within (c.char-f.ensures.leafs trivia c.requires.skips) c.in_default.not-Got
 
--- src/lib.rt:127:5
 pub around-requires : goal.around-requires
 around-requires c =
-    let st = stepped (mark_solid 42) c.in-Got.d c.requires.ready.within ((c.char-f.ensures.leafs trivia
-    c.requires.skips).reading 0 0) c.in-Got.is in
+    let st = stepped (mark_solid 42) c.in-Got.d c.requires.ready.within ((c.char-f.ensures.leafs trivia c.requires.skips).reading 0 0) c.in-Got.is in
     around_fits c.requires.ready (ready_step c.requires.ready st) (omega (arith, st.grown)) _ c.requires.ready.within 35 0 (lit< tt) (lit< tt)
 
--- src/lib.rt:118:1
 pub returns : goal.returns
 returns c =
     let st = stepped (mark_solid 42) c.in-Got.d c.requires.ready.within ((c.char-f.ensures.leafs trivia c.requires.skips).reading 0 0) c.in-Got.is in
-    pc_got c.args.c c.requires.ready.within c.in-Got.d c.in-Got.is (omega (arith, st.grown)) ((c.char-f.ensures.leafs trivia c.requires.skips)) c.around.ensures
+    pc_got c.args.c c.requires.ready.within c.in-Got.d c.in-Got.is (omega (arith, st.grown)) (c.char-f.ensures.leafs trivia c.requires.skips) c.around.ensures

@@ -1,40 +1,29 @@
 use native.Mathlib.Omega.{arith}
 use Rattle.expression.proofs.Parts.{modifier_solid, modified_got, modified_miss}
-use Rattle.expression.proofs.Steps.{ready_four, ready_step, skips_noted, noted_miss}
+use Rattle.expression.proofs.Steps.{ready_step, skips_noted, noted_miss}
 use Rattle.lexis.proofs.Marks.{placed}
 use Rattle.cursor.proofs.Laws.{stepped, reads_leaf, leaf_deep}
 use Rattle.reading.specs.Rules.{trivia}
-use borrow.Author.Rules.{rules}
-use Rattle.expression.proofs.modified_path.Reads as reads
-use Rattle.expression.proofs.modified_path.Lts as lts
-use Rattle.lexis.proofs.identifier.path.Reads as path-reads
-use Rattle.lexis.proofs.operator.modifier.Reads as modifier-reads
-use Rattle.trivia.proofs.trivia.Reads as trivia-reads
 use Rattle.expression.proofs.modified_path.Goals as goal
 
--- src/lib.rt:96:17
 pub trivia-j-requires : goal.trivia-j-requires
 trivia-j-requires c =
     let st = stepped modifier_solid c.in-Got.d c.requires.ready.within (c.modifier-f.ensures.reading 0 0) c.in-Got.is in
     st.within
 
--- src/lib.rt:97:13
 pub path-requires : goal.path-requires
 path-requires c =
     let st = stepped modifier_solid c.in-Got.d c.requires.ready.within (c.modifier-f.ensures.reading 0 0) c.in-Got.is in
     placed (ready_step c.requires.ready st) (omega arith) c.trivia-j.ensures
 
--- src/lib.rt:88:1
 pub returns-in-Got : goal.returns-in-Got
 returns-in-Got c =
     modified_got c.modifier-f.ensures c.in-Got.d c.in-Got.is (c.path.ensures.leafs trivia c.trivia-j.ensures)
 
--- src/lib.rt:88:1
 pub returns-in-Miss : goal.returns-in-Miss
 returns-in-Miss c =
-    modified_miss c.modifier-f.ensures _ c.in-Miss.is (c.path-in-Miss.ensures.leafs trivia (skips_noted c.requires.skips (noted_miss
-    (reads_leaf 0 c.modifier-f.ensures) _ c.in-Miss.is)))
+    modified_miss c.modifier-f.ensures _ c.in-Miss.is
+    (c.path-in-Miss.ensures.leafs trivia (skips_noted c.requires.skips (noted_miss (reads_leaf 0 c.modifier-f.ensures) _ c.in-Miss.is)))
 
--- src/lib.rt:88:1
 pub returns-in-Deep : goal.returns-in-Deep
 returns-in-Deep c = absurd (leaf_deep c.modifier-f.ensures c.in-Deep.is)

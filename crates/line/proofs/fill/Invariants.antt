@@ -8,7 +8,9 @@ use Rattle.line.specs.Marks.{On}
 use Rattle.line.proofs.fill.Given as goal
 
 abbrev pub invariant-loop-m : goal.invariant-loop-m
-invariant-loop-m l = (l.n < l.m) × (l.m ≤ l.count) × (length l.rows ≡ length l.initial.rows) × ((s t : List ℕ) → On s l.here → l.initial.rows ≡ lined s t (l.n + 1) → l.rows ≡ lined s t l.m)
+invariant-loop-m l =
+    (l.n < l.m) × (l.m ≤ l.count) × (length l.rows ≡ length l.initial.rows)
+    × ((s t : List ℕ) → On s l.here → l.initial.rows ≡ lined s t (l.n + 1) → l.rows ≡ lined s t l.m)
 
 abbrev pub decreases-loop-m : goal.decreases-loop-m
 decreases-loop-m l = l.count - l.m

@@ -1,4 +1,3 @@
--- The invariant: so many line feeds lead from the first place to this one.
 use mathlib.Core.Path.{sym, ◌∙◌}
 use native.Mathlib.Omega.{arith}
 use Rattle.line.proofs.Lines.{line_bound, line_reached}

@@ -1,4 +1,3 @@
--- The invariant: the rows before row n have their lines, and the stretch has its line.
 use mathlib.Core.Path.{◌≡◌, refl, ap, sym, subst, ◌∙◌}
 use mathlib.Core.Logic.{inl, inr}
 use native.Mathlib.Omega.{arith}
@@ -11,13 +10,67 @@ use Rattle.line.proofs.Stretches.{reaches_as}
 use Rattle.line.proofs.number.Goals as goal
 
 pub loop-n-init : goal.loop-n-init
-loop-n-init c = elim c.if-room-count.branch [ goal.then-room-count x ↦ (let e : c.if-room-count.end ≡ room row_width c.args.rows.now = x.end-is in (c.requires.2, refl, c.requires.1, numbered_same _ _ c.requires.3, omega (arith, e, x.if-room-count.true), omega (arith, e), inr (omega (arith, e)))) | goal.else-room-count x ↦ (let e : c.if-room-count.end ≡ c.args.count = x.end-is in (c.requires.2, refl, c.requires.1, numbered_same _ _ c.requires.3, omega (arith, e), omega (arith, e, x.if-room-count.false), inl (omega (arith, e)))) ]
+loop-n-init c =
+    elim c.if-room-count.branch [
+      | goal.then-room-count x ↦
+          let e : c.if-room-count.end ≡ room row_width c.args.rows.now = x.end-is in (
+            c.requires.2,
+            refl,
+            c.requires.1,
+            numbered_same _ _ c.requires.3,
+            omega (arith, e, x.if-room-count.true),
+            omega (arith, e),
+            inr (omega (arith, e)),
+          )
+      | goal.else-room-count x ↦
+          let e : c.if-room-count.end ≡ c.args.count = x.end-is in (
+            c.requires.2,
+            refl,
+            c.requires.1,
+            numbered_same _ _ c.requires.3,
+            omega (arith, e),
+            omega (arith, e, x.if-room-count.false),
+            inl (omega (arith, e)),
+          )
+    ]
 
 pub line_of-requires : goal.line_of-requires
-line_of-requires c = (c.requires.0, elim c.if-here-low.branch [ goal.then-here-low x ↦ subst (On c.args.text.now) (sym x.here-is) x.ahead-here.ensures.0 | goal.else-here-low x ↦ subst (On c.args.text.now) (sym x.here-is) c.loop-n.invariant.2 ], elim c.if-here-low.branch [ goal.then-here-low x ↦ reaches_as x.here-is x.ahead-here.ensures.2 | goal.else-here-low x ↦ reaches_as x.here-is x.if-here-low.false ], numbered_so _ c.loop-n.invariant.3, omega (arith, c.loop-n-test.true, c.loop-n.invariant.5, c.loop-n.invariant.1))
+line_of-requires c = (
+  c.requires.0,
+  elim c.if-here-low.branch [
+    | goal.then-here-low x ↦ subst (On c.args.text.now) (sym x.here-is) x.ahead-here.ensures.0
+    | goal.else-here-low x ↦ subst (On c.args.text.now) (sym x.here-is) c.loop-n.invariant.2
+  ],
+  elim c.if-here-low.branch [
+    | goal.then-here-low x ↦ reaches_as x.here-is x.ahead-here.ensures.2
+    | goal.else-here-low x ↦ reaches_as x.here-is x.if-here-low.false
+  ],
+  numbered_so _ c.loop-n.invariant.3,
+  omega (arith, c.loop-n-test.true, c.loop-n.invariant.5, c.loop-n.invariant.1),
+)
 
 pub loop-n-preserved : goal.loop-n-preserved
-loop-n-preserved c = let o : On c.args.text.now c.if-here-low.here = elim c.if-here-low.branch [ goal.then-here-low x ↦ subst (On c.args.text.now) (sym x.here-is) x.ahead-here.ensures.0 | goal.else-here-low x ↦ subst (On c.args.text.now) (sym x.here-is) c.loop-n.invariant.2 ] in let z = c.fill-n.ensures.2 c.args.text.now c.args.rows.now o (lined_more c.args.text.now c.args.rows.now c.loop-n.n c.loop-n.invariant.3 refl c.line_of.ensures) in (omega (arith, c.fill-n.ensures.1, c.loop-n.invariant.4), ap length z ∙ lined_length _ _ _, o, z, c.loop-n.invariant.4, c.loop-n.invariant.5, c.loop-n.invariant.6)
+loop-n-preserved c =
+    let o : On c.args.text.now c.if-here-low.here = elim c.if-here-low.branch [
+      | goal.then-here-low x ↦ subst (On c.args.text.now) (sym x.here-is) x.ahead-here.ensures.0
+      | goal.else-here-low x ↦ subst (On c.args.text.now) (sym x.here-is) c.loop-n.invariant.2
+    ] in
+    let lined_on = lined_more c.args.text.now c.args.rows.now c.loop-n.n c.loop-n.invariant.3 refl c.line_of.ensures in
+    let z = c.fill-n.ensures.2 c.args.text.now c.args.rows.now o lined_on in (
+      omega (arith, c.fill-n.ensures.1, c.loop-n.invariant.4),
+      ap length z ∙ lined_length _ _ _,
+      o,
+      z,
+      c.loop-n.invariant.4,
+      c.loop-n.invariant.5,
+      c.loop-n.invariant.6,
+    )
 
 pub returns : goal.returns
-returns c = (c.loop-n.invariant.2, c.loop-n.invariant.3 ∙ elim c.loop-n.invariant.6 [ inl h ↦ ap (lined _ _) (omega (arith, h, c.loop-n-test.false, c.loop-n.invariant.0)) | inr h ↦ sym (lined_full _ _ _ _ (omega (arith, h, c.loop-n-test.false)) c.loop-n.invariant.0) ])
+returns c = (
+  c.loop-n.invariant.2,
+  c.loop-n.invariant.3 ∙ elim c.loop-n.invariant.6 [
+    | inl h ↦ ap (lined _ _) (omega (arith, h, c.loop-n-test.false, c.loop-n.invariant.0))
+    | inr h ↦ sym (lined_full _ _ _ _ (omega (arith, h, c.loop-n-test.false)) c.loop-n.invariant.0)
+  ],
+)

@@ -1,13 +1,11 @@
 -- With a suffix, `)` is read behind it; without, at once.
-use Rattle.cursor.proofs.Agree.{not_got}
 use Rattle.operand.proofs.Steps.{onward_suffix, onward_ready}
 use Rattle.operand.proofs.Forms.{closing_plain, closing_misses, closing_goes}
-use borrow.Author.Rules.{rules}
 use Rattle.operand.proofs.closing.Goals as goal
 
 pub returns-in_default : goal.returns-in_default
 returns-in_default c =
-    closing_misses _ c.if-suffix.true c.optional_suffix-f.ensures (c.in_default.not-Got)
+    closing_misses _ c.if-suffix.true c.optional_suffix-f.ensures c.in_default.not-Got
 
 pub close-requires : goal.close-requires
 close-requires c =

@@ -8,5 +8,4 @@ returns-then-st c = report_lost _ _ _ c.if-st.true
 pub returns : goal.returns
 returns c =
     let args = c.args in
-    report_kept (record { code = args.code; low = args.low.0; high = args.high.0 }) args.st _ c.if-st.false
-    c.push_error.ensures
+    report_kept (record { code = args.code; low = args.low.0; high = args.high.0 }) args.st _ c.if-st.false c.push_error.ensures

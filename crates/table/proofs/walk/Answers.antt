@@ -17,7 +17,8 @@ returns-then-size-eq0 c = simp (ne_eqb _ _ c.if-count-eq0.false, le-ltb _ _ c.if
 
 pub returns-then-count-size : goal.returns-then-count-size
 unfolding walk
-returns-then-count-size c = simp (ne_eqb _ _ c.if-count-eq0.false, le-ltb _ _ c.if-rows-count.false, ne_eqb _ _ c.if-size-eq0.false, lt-ltb _ _ c.if-count-size.true)
+returns-then-count-size c =
+    simp (ne_eqb _ _ c.if-count-eq0.false, le-ltb _ _ c.if-rows-count.false, ne_eqb _ _ c.if-size-eq0.false, lt-ltb _ _ c.if-count-size.true)
 
 pub returns : goal.returns
 unfolding walk

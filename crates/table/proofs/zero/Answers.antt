@@ -1,4 +1,3 @@
--- The invariant: zeroing these words from i on gives what zeroing the first ones from `from` on gives.
 use mathlib.Core.Path.{◌∙◌}
 use lib.ListN.{length-set}
 use Rattle.table.proofs.Zeros.{zeroed_set}

@@ -5,17 +5,11 @@ use Rattle.trivia.proofs.comment_item.Goals as goal
 
 pub returns-in-At : goal.returns-in-At
 returns-in-At c =
-    starts_closed _ _ c.requires.at_in_bounds
-    c.requires.at_value
-    (sym c.two_are.ensures ∙ c.if-two_are.true)
-    c.c_comment-close.ensures _ c.in-At.is
+    starts_closed _ _ c.requires.at_in_bounds c.requires.at_value (sym c.two_are.ensures ∙ c.if-two_are.true) c.c_comment-close.ensures _ c.in-At.is
 
 pub returns-in-Open : goal.returns-in-Open
 returns-in-Open c =
-    starts_open _ _ c.requires.at_in_bounds
-    c.requires.at_value
-    (sym c.two_are.ensures ∙ c.if-two_are.true) c.c_comment-close.ensures
-    c.in-Open.is
+    starts_open _ _ c.requires.at_in_bounds c.requires.at_value (sym c.two_are.ensures ∙ c.if-two_are.true) c.c_comment-close.ensures c.in-Open.is
 
 pub returns-then-behind-end : goal.returns-then-behind-end
 returns-then-behind-end c =

@@ -9,8 +9,7 @@ returns-then-text-gt-MAX_TEXT c = too_long _ _ c.if-text-gt-MAX_TEXT.true
 
 pub returns-in-At : goal.returns-in-At
 returns-in-At c =
-    high_byte _ _ c.if-text-gt-MAX_TEXT.false _
-    (sym (ap high_of c.in-At.is) ∙ c.first_high-high.ensures)
+    high_byte _ _ c.if-text-gt-MAX_TEXT.false _ (sym (ap high_of c.in-At.is) ∙ c.first_high-high.ensures)
 
 pub returns-then-end-text : goal.returns-then-end-text
 returns-then-end-text c =
@@ -21,22 +20,10 @@ returns-then-end-text c =
 pub returns-then-words-n : goal.returns-then-words-n
 returns-then-words-n c =
     rw c.zero.ensures
-    (no_room _ _
-    c.if-text-gt-MAX_TEXT.false
-    (sym (ap high_of c.in_default.is) ∙ c.first_high-high.ensures)
-    c.list_items-listing.ensures
-    c.if-end-text.false
-    c.if-words-n.true)
+    (no_room _ _ c.if-text-gt-MAX_TEXT.false
+    (sym (ap high_of c.in_default.is) ∙ c.first_high-high.ensures) c.list_items-listing.ensures c.if-end-text.false c.if-words-n.true)
 
 pub returns : goal.returns
 returns c =
-    counted _ _
-    c.if-text-gt-MAX_TEXT.false
-    (sym (ap high_of c.in_default.is)
-    ∙ c.first_high-high.ensures)
-    c.list_items-listing.ensures
-    c.if-end-text.false
-    c.if-words-n.false
-    c.list_items.auto.table
-    c.list_items.ensures.holds
-    c.zero-2.ensures
+    counted _ _ c.if-text-gt-MAX_TEXT.false (sym (ap high_of c.in_default.is) ∙ c.first_high-high.ensures) c.list_items-listing.ensures
+    c.if-end-text.false c.if-words-n.false c.list_items.auto.table c.list_items.ensures.holds c.zero-2.ensures

@@ -1,4 +1,3 @@
--- The invariant: the items that are passed are in the table, and whatever follows them is listed behind them.
 use mathlib.Core.Path.{◌∙◌}
 use native.Mathlib.Omega.{arith}
 use Rattle.trivia.proofs.Entries.{passed_more, passed_all}
@@ -15,8 +14,8 @@ push_error-requires c =
 
 pub loop-kind-smaller : goal.loop-kind-smaller
 loop-kind-smaller c =
-    let m = item_bounds c.trivia_item-piece.ensures _ _
-    c.in-Item.is in omega (arith, m.0, m.1)
+    let m = item_bounds c.trivia_item-piece.ensures _ _ c.in-Item.is in
+    omega (arith, m.0, m.1)
 
 pub loop-kind-preserved : goal.loop-kind-preserved
 loop-kind-preserved c = (

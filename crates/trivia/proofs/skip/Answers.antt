@@ -1,4 +1,3 @@
--- The invariant: the items that are passed, and whatever follows them, are trivia from the start on.
 use mathlib.Core.Path.{ap, ◌∙◌}
 use native.Mathlib.Omega.{arith}
 use Rattle.trivia.specs.Piece.{kept}
@@ -7,14 +6,11 @@ use Rattle.trivia.proofs.skip.Goals as goal
 
 pub returns-in_default : goal.returns-in_default
 returns-in_default c =
-    walked_skips c.loop-kind.invariant c.trivia_item-piece.ensures c.requires
-    (ap (kept _) c.in_default.is ∙ kept_none _)
+    walked_skips c.loop-kind.invariant c.trivia_item-piece.ensures c.requires (ap (kept _) c.in_default.is ∙ kept_none _)
 
 pub returns-then-kind-lines : goal.returns-then-kind-lines
 returns-then-kind-lines c =
-    walked_skips c.loop-kind.invariant c.trivia_item-piece.ensures
-    c.requires
-    (ap (kept _) c.in-Item.is ∙ kept_no _ _ _ c.if-kind-lines.true)
+    walked_skips c.loop-kind.invariant c.trivia_item-piece.ensures c.requires (ap (kept _) c.in-Item.is ∙ kept_no _ _ _ c.if-kind-lines.true)
 
 pub returns-then-bare : goal.returns-then-bare
 returns-then-bare c =

@@ -1,4 +1,4 @@
--- `word::begins` meets its contract. The loop's invariant: what is left of the word is to be compared with the text behind `at + i`.
+-- `word::begins` meets its contract.
 -- Assumes nothing.
 use mathlib.Core.Path.{sym}
 use native.Mathlib.Omega.{arith}

@@ -1,5 +1,4 @@
--- `word::begins` meets its contract. The loop's invariant: what is left of the word is to be compared with the text behind `at + i`.
--- Assumes nothing.
+-- The loop's invariant: what is left of the word is to be compared with the text behind `at + i`.
 use mathlib.Core.Path.{◌≡◌}
 use Prim.Native.Nat.{◌+◌, ◌-◌, ◌≤◌}
 use lib.ListN.{length, drop}

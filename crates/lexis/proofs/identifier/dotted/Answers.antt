@@ -1,12 +1,8 @@
 -- No dot, or what stands behind it.
 use mathlib.Core.Path.{refl, sym, ◌∙◌}
-use Prim.Native.Nat.{◌+◌}
-use native.Mathlib.Omega.{arith}
-use borrow.Author.Rules.{rules}
 use borrow.Author.Tests.{not-true, not-false}
-use Rattle.table.specs.declared.Pos.{Pos}
 use Rattle.lexis.specs.Finds.{identifier}
-use Rattle.lexis.proofs.Ends.{byte_at, byte_no, seq_at, seq_no, end_in}
+use Rattle.lexis.proofs.Ends.{byte_at, byte_no, seq_at, seq_no}
 use Rattle.lexis.proofs.identifier.dotted.Goals as goal
 
 pub returns-then-not-byte_is : goal.returns-then-not-byte_is
@@ -14,5 +10,5 @@ returns-then-not-byte_is c = seq_no identifier (byte_no 46 _ _ (sym c.byte_is.en
 
 pub returns : goal.returns
 returns c =
-    seq_at identifier tt (byte_at 46 _ _ (sym c.byte_is.ensures ∙ not-false _ c.if-not-byte_is.false-raw)
-    (record { 0 = _ }) refl) c.identifier.ensures
+    seq_at identifier tt (byte_at 46 _ _ (sym c.byte_is.ensures ∙ not-false _ c.if-not-byte_is.false-raw) (record { 0 = _ }) refl)
+    c.identifier.ensures

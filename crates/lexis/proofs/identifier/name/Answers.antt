@@ -1,5 +1,4 @@
 -- Letters, digits and `_` are what a name is made of.
-use borrow.Author.Rules.{rules}
 use Rattle.reading.specs.Rules.{identifier_name}
 use Rattle.lexis.proofs.identifier.name.Goals as goal
 

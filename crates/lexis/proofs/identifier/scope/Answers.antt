@@ -1,7 +1,6 @@
 -- The text ends; no sign; a sign at the end; a sign with a letter or digit behind it; a sign alone.
 use mathlib.Core.Bool.{◌||◌}
 use mathlib.Core.Path.{refl, ap₂, sym, ◌∙◌}
-use borrow.Author.Rules.{rules}
 use borrow.Author.Tests.{not-true, not-false}
 use Rattle.reading.specs.Byte.{alphanumeric}
 use Rattle.lexis.proofs.Ends.{one_at, one_no, one_end, never_at, never_no}
@@ -16,17 +15,14 @@ returns-then-not-b c = scope_no _ _ c.if-s-i.false (not-true _ c.if-not-b.true-r
 
 pub returns-then-s-j : goal.returns-then-s-j
 returns-then-s-j c =
-    scope_at _ _ c.if-s-i.false (not-false _ c.if-not-b.false-raw) (never_no (one_end alphanumeric _ _
-    c.if-s-j.true) _ refl)
+    scope_at _ _ c.if-s-i.false (not-false _ c.if-not-b.false-raw) (never_no (one_end alphanumeric _ _ c.if-s-j.true) _ refl)
 
 pub returns-then-letter-digit : goal.returns-then-letter-digit
 returns-then-letter-digit c =
     scope_at _ _ c.if-s-i.false (not-false _ c.if-not-b.false-raw)
-    (never_at tt (one_at alphanumeric _ _ c.if-s-j.false
-    (sym (ap₂ ◌||◌ c.letter.ensures c.digit.ensures) ∙ c.if-letter-digit.true) (record { 0 = _ }) refl))
+    (never_at tt (one_at alphanumeric _ _ c.if-s-j.false (sym (ap₂ ◌||◌ c.letter.ensures c.digit.ensures) ∙ c.if-letter-digit.true) (record { 0 = _ }) refl))
 
 pub returns : goal.returns
 returns c =
     scope_at _ _ c.if-s-i.false (not-false _ c.if-not-b.false-raw)
-    (never_no (one_no alphanumeric _ _ c.if-s-j.false
-    (sym (ap₂ ◌||◌ c.letter.ensures c.digit.ensures) ∙ c.if-letter-digit.false)) _ refl)
+    (never_no (one_no alphanumeric _ _ c.if-s-j.false (sym (ap₂ ◌||◌ c.letter.ensures c.digit.ensures) ∙ c.if-letter-digit.false)) _ refl)

@@ -1,6 +1,5 @@
 -- A name was found, and has a row; or none was.
 use native.Mathlib.Omega.{arith}
-use borrow.Author.Rules.{rules}
 use Rattle.lexis.proofs.Ends.{finds_to, end_in}
 use Rattle.lexis.proofs.Marks.{row_fits, behind_found, behind_none}
 use Rattle.lexis.proofs.mark.name.Goals as goal
@@ -15,5 +14,4 @@ row-requires c =
 
 pub returns : goal.returns
 returns c =
-    behind_found _ 0 tt (finds_to c.in-At.is
-    c.name_end-f.ensures) c.row.ensures
+    behind_found _ 0 tt (finds_to c.in-At.is c.name_end-f.ensures) c.row.ensures

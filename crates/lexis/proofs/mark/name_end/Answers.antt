@@ -1,7 +1,6 @@
 -- A name ends behind its first byte, or there is none.
 use Rattle.trivia.specs.Class.{starts, goes}
 use Rattle.lexis.proofs.Ends.{name_at, no_name}
-use borrow.Author.Rules.{rules}
 use Rattle.lexis.proofs.mark.name_end.Goals as goal
 
 pub returns-then-e-at : goal.returns-then-e-at

@@ -1,6 +1,5 @@
 -- The first word of the list, behind trivia.
 use native.Mathlib.Omega.{arith}
-use borrow.Author.Rules.{rules}
 use Rattle.reading.specs.Rules.{trivia, encoding}
 use Rattle.word.specs.Words.{encodings}
 use Rattle.lexis.proofs.Marks.{placed}
@@ -14,5 +13,4 @@ picked-requires-clause-fitting c = (picked_fits encodings tt (placed c.requires 
 pub returns : goal.returns
 unfolding encoding
 returns c =
-    (c.picked.ensures.picks _ encodings c.encoding-p.ensures).leafs trivia
-    c.trivia-k.ensures
+    (c.picked.ensures.picks _ encodings c.encoding-p.ensures).leafs trivia c.trivia-k.ensures

@@ -1,6 +1,5 @@
 -- The first word of the list, behind trivia.
 use native.Mathlib.Omega.{arith}
-use borrow.Author.Rules.{rules}
 use Rattle.reading.specs.Rules.{trivia, expression_operator}
 use Rattle.word.specs.Words.{expression_operators}
 use Rattle.lexis.proofs.Marks.{placed}
@@ -14,6 +13,4 @@ picked-requires-clause-fitting c = (picked_fits expression_operators tt (placed 
 pub returns : goal.returns
 unfolding expression_operator
 returns c =
-    (c.picked.ensures.picks _ expression_operators
-    c.expression_operator-p.ensures).leafs trivia
-    c.trivia-k.ensures
+    (c.picked.ensures.picks _ expression_operators c.expression_operator-p.ensures).leafs trivia c.trivia-k.ensures

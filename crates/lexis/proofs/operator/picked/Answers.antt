@@ -1,6 +1,5 @@
 -- The word's row, or none.
 use native.Mathlib.Omega.{arith}
-use borrow.Author.Rules.{rules}
 use Rattle.lexis.proofs.Words.{chosen_word, chosen_none, fitting_word}
 use Rattle.lexis.proofs.operator.picked.Goals as goal
 
@@ -13,8 +12,7 @@ overflow_add-low c = omega (arith, fitting_word _ _ _ c.in-Word.is c.requires.fi
 pub row-requires : goal.row-requires
 row-requires c =
     let h = c.requires.count_bound in
-    let f = fitting_word _ _ _ c.in-Word.is
-    c.requires.fitting in
+    let f = fitting_word _ _ _ c.in-Word.is c.requires.fitting in
     (h.0, h.1, h.2, f.0, h.3, f.1)
 
 pub returns : goal.returns

@@ -1,6 +1,5 @@
 -- The first word of the list, behind trivia.
 use native.Mathlib.Omega.{arith}
-use borrow.Author.Rules.{rules}
 use Rattle.reading.specs.Rules.{trivia, term_operator}
 use Rattle.word.specs.Words.{term_operators}
 use Rattle.lexis.proofs.Marks.{placed}
@@ -14,5 +13,4 @@ picked-requires-clause-fitting c = (picked_fits term_operators tt (placed c.requ
 pub returns : goal.returns
 unfolding term_operator
 returns c =
-    (c.picked.ensures.picks _ term_operators c.term_operator-p.ensures).leafs trivia
-    c.trivia-k.ensures
+    (c.picked.ensures.picks _ term_operators c.term_operator-p.ensures).leafs trivia c.trivia-k.ensures

@@ -1,6 +1,4 @@
 use native.Mathlib.Omega.{arith}
-use borrow.Author.Rules.{rules}
-use Rattle.cursor.proofs.Agree.{not_got}
 use Rattle.lexis.proofs.Ends.{finds_to}
 use Rattle.lexis.proofs.Marks.{row_fits}
 use Rattle.literal.proofs.Numbers.{decimal_placed, decimal_leafs, decimal_none, numeral_in}
@@ -11,7 +9,8 @@ returns-in_default c = decimal_none c.requires.skips (finds_to c.in_default.is c
 
 pub row-requires : goal.row-requires
 row-requires c =
-    row_fits (decimal_placed c.requires.skips c.requires.ready c.row-g.ensures c.in-Got.is) _ 50 0 (numeral_in c.requires.skips.within (finds_to c.in-At.is c.numeral-f.ensures)) (omega arith) (omega arith)
+    row_fits (decimal_placed c.requires.skips c.requires.ready c.row-g.ensures c.in-Got.is) _ 50 0
+    (numeral_in c.requires.skips.within (finds_to c.in-At.is c.numeral-f.ensures)) (omega arith) (omega arith)
 
 pub returns : goal.returns
 returns c =

@@ -1,12 +1,10 @@
 use native.Mathlib.Omega.{arith}
-use borrow.Author.Rules.{rules}
-use Rattle.cursor.proofs.Agree.{not_got}
 use Rattle.literal.proofs.Numbers.{number_out, number_got, number_step}
 use Rattle.literal.proofs.number.number.Goals as goal
 
 pub returns-in_default : goal.returns-in_default
 returns-in_default c =
-    number_out c.requires.ready.within c.value-f.ensures (c.in_default.not-Got)
+    number_out c.requires.ready.within c.value-f.ensures c.in_default.not-Got
 
 pub overflow_add-n : goal.overflow_add-n
 overflow_add-n c =

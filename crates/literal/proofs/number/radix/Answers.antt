@@ -1,10 +1,6 @@
-use native.Mathlib.Omega.{arith}
-use borrow.Author.Rules.{rules}
-use Rattle.cursor.proofs.Agree.{not_got}
-use Rattle.lexis.proofs.Marks.{placed}
-use Rattle.literal.proofs.Numbers.{radix_ready, radix_leafs}
+use Rattle.literal.proofs.Numbers.{radix_leafs}
 use Rattle.literal.proofs.number.radix.Goals as goal
 
 pub returns : goal.returns
 returns c =
-    radix_leafs c.requires.skips (c.args.mark) (c.args.ty) (c.args.class) c.requires.s_value.0 c.row-f.ensures c.in-Got.is c.trivia-j.ensures c.run.ensures
+    radix_leafs c.requires.skips c.args.mark c.args.ty c.args.class c.requires.s_value.0 c.row-f.ensures c.in-Got.is c.trivia-j.ensures c.run.ensures

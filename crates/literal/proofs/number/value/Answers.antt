@@ -1,8 +1,5 @@
 use mathlib.Core.Path.{sym, ◌∙◌}
-use native.Mathlib.Omega.{arith}
-use borrow.Author.Rules.{rules}
-use Rattle.lexis.proofs.Marks.{skips_again}
-use Rattle.literal.proofs.Numbers.{ready_again, at_hex, at_binary, at_decimal}
+use Rattle.literal.proofs.Numbers.{at_hex, at_binary, at_decimal}
 use Rattle.literal.proofs.number.value.Goals as goal
 
 pub returns-then-byte_is : goal.returns-then-byte_is

@@ -1,10 +1,5 @@
-use mathlib.Core.Path.{◌∙◌}
-use Prim.Native.Nat.{◌-◌}
 use native.Mathlib.Omega.{arith}
-use borrow.Author.Rules.{rules}
-use lib.ListN.{length}
-use Rattle.cursor.proofs.Loops.{Looped, looped_none, many_step, many_more, many_end, many_deep}
-use Rattle.cursor.proofs.Rounds.{progress_ready}
+use Rattle.cursor.proofs.Loops.{looped_none, many_step, many_more, many_end, many_deep}
 use Rattle.literal.specs.Parts.{item_of}
 use Rattle.literal.proofs.Strings.{item_repeats}
 use Rattle.literal.proofs.text.items.Goals as goal

@@ -1,29 +1,19 @@
--- The cycle of a config map: a map has pairs, a pair has a value, a value may be a map. Each map takes a level, so that sixteen times the levels left
--- and the function's place in the cycle fall.
 use mathlib.Core.Bool.{true}
-use mathlib.Core.Path.{◌∙◌}
-use Prim.Native.Nat.{◌+◌, ◌*◌, ◌-◌}
 use native.Mathlib.Omega.{arith}
-use borrow.Author.Rules.{rules}
-use lib.ListN.{length}
 use Rattle.reading.specs.Kind.{config_valueᵏ}
-use Rattle.reading.specs.Rules.{mws, multiline_trivia, config_value as config_valueᵍ, kvp as kvpᵍ}
-use Rattle.cursor.proofs.Agree.{not_got, not_miss}
+use Rattle.reading.specs.Rules.{mws, multiline_trivia, config_value as config_valueᵍ}
 use Rattle.cursor.proofs.Laws.{reads_leaf, stepped}
-use Rattle.cursor.proofs.Rounds.{progress_ready}
-use Rattle.cursor.proofs.Loops.{Looped, looped_none}
-use Rattle.lexis.proofs.Marks.{placed}
+use Rattle.cursor.proofs.Loops.{looped_none}
 use Rattle.lexis.proofs.Solids.{char_solid}
 use Rattle.operand.proofs.Facts.{key_solid, pairs_solid, assigned_solid, value_quiet, value_slim, value_cost}
-use Rattle.expression.proofs.Steps.{ready_four, ready_met, ready_skip, then_out, then_got}
+use Rattle.expression.proofs.Steps.{then_out, then_got}
 use Rattle.operand.proofs.Steps.{node_misses, node_done, onward, onward_solid, onward_then, onward_behind, onward_finished, onward_ready, spans}
 use Rattle.operand.proofs.Pairs.{map_misses, map_deep, map_lacks, map_done, pairs_round, pairs_more, pairs_end, pairs_deep}
 use Rattle.operand.proofs.Pairs.{kvp_misses, kvp_lacks, kvp_done, value_map, value_other}
-use Prim.Native.Nat.{ℕ, ◌<◌}
 use Rattle.operand.proofs.config_map.+config_map.Goals as goal
 
 pub assigned-returns-in_default : goal.assigned-returns-in_default
-assigned-returns-in_default t c = then_out (reads_leaf _ c.mchar-f.ensures) (mws config_valueᵏ 0 config_valueᵍ) (c.in_default.not-Got)
+assigned-returns-in_default t c = then_out (reads_leaf _ c.mchar-f.ensures) (mws config_valueᵏ 0 config_valueᵍ) c.in_default.not-Got
 
 pub assigned-value-requires : goal.assigned-value-requires
 assigned-value-requires t c =
@@ -33,17 +23,15 @@ assigned-value-requires t c =
 
 pub assigned-returns : goal.assigned-returns
 assigned-returns t c =
-    then_got (reads_leaf _ c.mchar-f.ensures) (mws config_valueᵏ 0 config_valueᵍ) (char_solid true 61).quieted c.in-Got.d c.in-Got.is
-    c.value.ensures
+    then_got (reads_leaf _ c.mchar-f.ensures) (mws config_valueᵏ 0 config_valueᵍ) (char_solid true 61).quieted c.in-Got.d c.in-Got.is c.value.ensures
 
 pub config_map-returns-in_default : goal.config_map-returns-in_default
 config_map-returns-in_default t c =
-    map_misses _ (c.char-f.ensures.leafs multiline_trivia c.multiline_trivia-k.ensures) (c.in_default.not-Got)
+    map_misses _ (c.char-f.ensures.leafs multiline_trivia c.multiline_trivia-k.ensures) c.in_default.not-Got
 
 pub config_map-returns-then-left-eq0 : goal.config_map-returns-then-left-eq0
 config_map-returns-then-left-eq0 t c =
-    map_deep _ (c.char-f.ensures.leafs multiline_trivia c.multiline_trivia-k.ensures) c.in-Got.d c.in-Got.is
-    c.if-left-eq0.true
+    map_deep _ (c.char-f.ensures.leafs multiline_trivia c.multiline_trivia-k.ensures) c.in-Got.d c.in-Got.is c.if-left-eq0.true
 
 pub config_map-kvps-g-requires : goal.config_map-kvps-g-requires
 config_map-kvps-g-requires t c =
@@ -54,19 +42,21 @@ config_map-kvps-g-requires t c =
 pub config_map-returns-in_default-g : goal.config_map-returns-in_default-g
 config_map-returns-in_default-g t c =
     map_lacks _ (c.char-f.ensures.leafs multiline_trivia c.multiline_trivia-k.ensures) c.in-Got.d c.in-Got.is
-    c.if-left-eq0.false c.kvps-g.ensures (c.in_default-g.not-Got)
+    c.if-left-eq0.false c.kvps-g.ensures c.in_default-g.not-Got
 
 pub config_map-finish-y-requires-clause-spans : goal.config_map-finish-y-requires-clause-spans
 config_map-finish-y-requires-clause-spans t c =
     let a = onward_solid (char_solid true 123) c.requires.within
     (reads_leaf 0 (c.char-f.ensures.leafs multiline_trivia c.multiline_trivia-k.ensures)) c.in-Got.d c.in-Got.is in
-    let b = onward_then a (onward_solid pairs_solid a.within c.kvps-g.ensures c.in-Got-g.e c.in-Got-g.is) in spans c.requires c.multiline_trivia-k.ensures (omega arith) b
+    let b = onward_then a (onward_solid pairs_solid a.within c.kvps-g.ensures c.in-Got-g.e c.in-Got-g.is) in
+    spans c.requires c.multiline_trivia-k.ensures (omega arith) b
 
 pub config_map-finish-z-requires-clause-spans : goal.config_map-finish-z-requires-clause-spans
 config_map-finish-z-requires-clause-spans t c =
     let a = onward_solid (char_solid true 123) c.requires.within
     (reads_leaf 0 (c.char-f.ensures.leafs multiline_trivia c.multiline_trivia-k.ensures)) c.in-Got.d c.in-Got.is in
-    let b = onward_then a (onward_solid pairs_solid a.within c.kvps-g.ensures c.in-Got-g.e c.in-Got-g.is) in spans c.requires c.multiline_trivia-k.ensures (omega arith) (onward_finished b c.finish-y.ensures)
+    let b = onward_then a (onward_solid pairs_solid a.within c.kvps-g.ensures c.in-Got-g.e c.in-Got-g.is) in
+    spans c.requires c.multiline_trivia-k.ensures (omega arith) (onward_finished b c.finish-y.ensures)
 
 pub config_map-returns : goal.config_map-returns
 config_map-returns t c =
@@ -76,14 +66,14 @@ config_map-returns t c =
 
 pub config_value-returns-in_default : goal.config_value-returns-in_default
 config_value-returns-in_default t c =
-    value_map c.requires.le_at c.requires.ready.within c.config_map-f.ensures (c.in_default.not-Miss)
+    value_map c.requires.le_at c.requires.ready.within c.config_map-f.ensures c.in_default.not-Miss
 
 pub config_value-returns : goal.config_value-returns
 config_value-returns t c =
     value_other c.requires.le_at c.requires.ready.within c.config_map-f.ensures _ c.in-Miss.is c.expression_value.ensures
 
 pub kvp-returns-in_default : goal.kvp-returns-in_default
-kvp-returns-in_default t c = kvp_misses _ c.config_key-f.ensures (c.in_default.not-Got)
+kvp-returns-in_default t c = kvp_misses _ c.config_key-f.ensures c.in_default.not-Got
 
 pub kvp-assigned-g-requires : goal.kvp-assigned-g-requires
 kvp-assigned-g-requires t c =
@@ -92,12 +82,13 @@ kvp-assigned-g-requires t c =
 
 pub kvp-returns-in_default-g : goal.kvp-returns-in_default-g
 kvp-returns-in_default-g t c =
-    kvp_lacks _ c.config_key-f.ensures c.in-Got.d c.in-Got.is c.assigned-g.ensures (c.in_default-g.not-Got)
+    kvp_lacks _ c.config_key-f.ensures c.in-Got.d c.in-Got.is c.assigned-g.ensures c.in_default-g.not-Got
 
 pub kvp-finish-z-requires-clause-spans : goal.kvp-finish-z-requires-clause-spans
 kvp-finish-z-requires-clause-spans t c =
     let a = onward_solid key_solid c.requires.within (reads_leaf 0 c.config_key-f.ensures) c.in-Got.d c.in-Got.is in
-    let b = onward_then a (onward_solid assigned_solid a.within c.assigned-g.ensures c.in-Got-g.e c.in-Got-g.is) in spans c.requires c.multiline_trivia-k.ensures (omega arith) b
+    let b = onward_then a (onward_solid assigned_solid a.within c.assigned-g.ensures c.in-Got-g.e c.in-Got-g.is) in
+    spans c.requires c.multiline_trivia-k.ensures (omega arith) b
 
 pub kvp-returns : goal.kvp-returns
 kvp-returns t c =
@@ -126,14 +117,14 @@ kvps-returns-in-Deep t c =
 
 pub value-returns-in_default : goal.value-returns-in_default
 value-returns-in_default t c =
-    node_misses config_valueᵏ 0 c.multiline_trivia-k.ensures c.config_value-f.ensures (c.in_default.not-Got)
+    node_misses config_valueᵏ 0 c.multiline_trivia-k.ensures c.config_value-f.ensures c.in_default.not-Got
 
 pub value-finish-z-requires-clause-spans : goal.value-finish-z-requires-clause-spans
 value-finish-z-requires-clause-spans t c =
     let v = onward config_valueᵍ value_quiet value_slim 1 value_cost c.multiline_trivia-k.ensures.within c.config_value-f.ensures
-    c.in-Got.d c.in-Got.is in spans c.requires.ready c.multiline_trivia-k.ensures (omega arith) (onward_behind c.multiline_trivia-k.ensures v)
+    c.in-Got.d c.in-Got.is in
+    spans c.requires.ready c.multiline_trivia-k.ensures (omega arith) (onward_behind c.multiline_trivia-k.ensures v)
 
 pub value-returns : goal.value-returns
 value-returns t c =
-    node_done config_valueᵏ 0 c.multiline_trivia-k.ensures c.config_value-f.ensures value_quiet c.in-Got.d
-    c.in-Got.is c.finish-z.ensures
+    node_done config_valueᵏ 0 c.multiline_trivia-k.ensures c.config_value-f.ensures value_quiet c.in-Got.d c.in-Got.is c.finish-z.ensures

@@ -1,6 +1,5 @@
 -- Letters, digits and `-` are what a key is made of.
 use Rattle.reading.specs.Rules.{multiline_trivia, config_key}
-use borrow.Author.Rules.{rules}
 use Rattle.operand.proofs.config_map.config_key.Goals as goal
 
 pub returns : goal.returns

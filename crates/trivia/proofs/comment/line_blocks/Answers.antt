@@ -1,4 +1,3 @@
--- The invariant: the line from the start on ends where the line from i on does.
 use mathlib.Core.Path.{◌∙◌}
 use native.Mathlib.Omega.{arith}
 use Rattle.trivia.proofs.Clear.{line_over}

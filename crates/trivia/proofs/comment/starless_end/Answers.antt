@@ -1,4 +1,3 @@
--- The invariant: no mark starts before i.
 use native.Mathlib.Omega.{arith}
 use Rattle.trivia.proofs.Clear.{unmarked_more}
 use Rattle.trivia.proofs.comment.starless_end.Goals as goal

@@ -30,14 +30,18 @@ pub returns-then-d-eq0 : goal.returns-then-d-eq0
 unfolding picked_of
 returns-then-d-eq0 c =
     let a = c.args in
-    ap picked_of (sym (read a.implied a.s.now a.at.0 c.lower-a.result c.lower-b.result c.lower-c.result c.detail-d.result (omega arith)
-    c.lower-a.ensures c.lower-b.ensures c.lower-c.ensures (omega arith) (omega arith) (omega arith) c.detail-d.ensures
+    ap picked_of
+    (sym
+    (read a.implied a.s.now a.at.0 c.lower-a.result c.lower-b.result c.lower-c.result c.detail-d.result
+    (omega arith) c.lower-a.ensures c.lower-b.ensures c.lower-c.ensures (omega arith) (omega arith) (omega arith) c.detail-d.ensures
     ∙ no_detail c.detail-d.result c.if-d-eq0.true))
 
 pub returns : goal.returns
 unfolding picked_of
 returns c =
     let a = c.args in
-    ap picked_of (sym (read a.implied a.s.now a.at.0 c.lower-a.result c.lower-b.result c.lower-c.result c.detail-d.result (omega arith)
-    c.lower-a.ensures c.lower-b.ensures c.lower-c.ensures (omega arith) (omega arith) (omega arith) c.detail-d.ensures
+    ap picked_of
+    (sym
+    (read a.implied a.s.now a.at.0 c.lower-a.result c.lower-b.result c.lower-c.result c.detail-d.result
+    (omega arith) c.lower-a.ensures c.lower-b.ensures c.lower-c.ensures (omega arith) (omega arith) (omega arith) c.detail-d.ensures
     ∙ a_detail c.detail-d.result (omega arith)))

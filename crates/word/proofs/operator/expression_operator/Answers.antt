@@ -31,43 +31,37 @@ pub returns-in-61 : goal.returns-in-61
 unfolding first_word picked_of
 returns-in-61 c =
     let a = c.args in
-    at_byte expression_operators a.s.now a.at.0 61 c.if-s-i.false c.in-61.is
-    (c.second.ensures ∙ two_is _ _ none)
+    at_byte expression_operators a.s.now a.at.0 61 c.if-s-i.false c.in-61.is (c.second.ensures ∙ two_is _ _ none)
 
 pub returns-in-33 : goal.returns-in-33
 unfolding first_word picked_of
 returns-in-33 c =
     let a = c.args in
-    at_byte expression_operators a.s.now a.at.0 33 c.if-s-i.false c.in-33.is
-    (c.second-in-33.ensures ∙ two_is _ _ none)
+    at_byte expression_operators a.s.now a.at.0 33 c.if-s-i.false c.in-33.is (c.second-in-33.ensures ∙ two_is _ _ none)
 
 pub returns-in-62 : goal.returns-in-62
 unfolding first_word picked_of
 returns-in-62 c =
     let a = c.args in
-    at_byte expression_operators a.s.now a.at.0 62 c.if-s-i.false c.in-62.is
-    (c.second-in-62.ensures ∙ two_is _ _ (some (1, 11)))
+    at_byte expression_operators a.s.now a.at.0 62 c.if-s-i.false c.in-62.is (c.second-in-62.ensures ∙ two_is _ _ (some (1, 11)))
 
 pub returns-in-60 : goal.returns-in-60
 unfolding first_word picked_of
 returns-in-60 c =
     let a = c.args in
-    at_byte expression_operators a.s.now a.at.0 60 c.if-s-i.false c.in-60.is
-    (c.second-in-60.ensures ∙ two_is _ _ (some (1, 13)))
+    at_byte expression_operators a.s.now a.at.0 60 c.if-s-i.false c.in-60.is (c.second-in-60.ensures ∙ two_is _ _ (some (1, 13)))
 
 pub returns-in-38 : goal.returns-in-38
 unfolding first_word picked_of
 returns-in-38 c =
     let a = c.args in
-    at_byte expression_operators a.s.now a.at.0 38 c.if-s-i.false c.in-38.is
-    (c.second-in-38.ensures ∙ two_is _ _ none)
+    at_byte expression_operators a.s.now a.at.0 38 c.if-s-i.false c.in-38.is (c.second-in-38.ensures ∙ two_is _ _ none)
 
 pub returns-in-124 : goal.returns-in-124
 unfolding first_word picked_of
 returns-in-124 c =
     let a = c.args in
-    at_byte expression_operators a.s.now a.at.0 124 c.if-s-i.false c.in-124.is
-    (c.second-in-124.ensures ∙ two_is _ _ none)
+    at_byte expression_operators a.s.now a.at.0 124 c.if-s-i.false c.in-124.is (c.second-in-124.ensures ∙ two_is _ _ none)
 
 pub returns-in_default : goal.returns-in_default
 unfolding picked_of

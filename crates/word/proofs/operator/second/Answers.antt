@@ -21,12 +21,12 @@ pub returns-then-s-i : goal.returns-then-s-i
 unfolding two_or
 returns-then-s-i c =
     let a = c.args in
-    ap (λ (x : Bool). two_or x a.detail a.other) (sym (begins_at a.b [] a.s.now (a.at.0 + 1) (omega arith)
-    ∙ ap (◌&& true) (eq-eqb a.b (get_or a.s.now (a.at.0 + 1) 0) (sym c.if-s-i.true))))
+    ap (λ (x : Bool). two_or x a.detail a.other)
+    (sym (begins_at a.b [] a.s.now (a.at.0 + 1) (omega arith) ∙ ap (◌&& true) (eq-eqb a.b (get_or a.s.now (a.at.0 + 1) 0) (sym c.if-s-i.true))))
 
 pub returns : goal.returns
 unfolding two_or
 returns c =
     let a = c.args in
-    ap (λ (x : Bool). two_or x a.detail a.other) (sym (begins_at a.b [] a.s.now (a.at.0 + 1) (omega arith)
-    ∙ ap (◌&& true) (ne_eqb a.b (get_or a.s.now (a.at.0 + 1) 0) λ e. c.if-s-i.false (sym e))))
+    ap (λ (x : Bool). two_or x a.detail a.other)
+    (sym (begins_at a.b [] a.s.now (a.at.0 + 1) (omega arith) ∙ ap (◌&& true) (ne_eqb a.b (get_or a.s.now (a.at.0 + 1) 0) λ e. c.if-s-i.false (sym e))))

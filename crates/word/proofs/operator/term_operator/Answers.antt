@@ -35,15 +35,13 @@ pub returns-in-60 : goal.returns-in-60
 unfolding first_word picked_of
 returns-in-60 c =
     let a = c.args in
-    at_byte term_operators a.s.now a.at.0 60 c.if-s-i.false c.in-60.is
-    (c.second.ensures ∙ two_is _ _ none)
+    at_byte term_operators a.s.now a.at.0 60 c.if-s-i.false c.in-60.is (c.second.ensures ∙ two_is _ _ none)
 
 pub returns-in-62 : goal.returns-in-62
 unfolding first_word picked_of
 returns-in-62 c =
     let a = c.args in
-    at_byte term_operators a.s.now a.at.0 62 c.if-s-i.false c.in-62.is
-    (c.second-in-62.ensures ∙ two_is _ _ none)
+    at_byte term_operators a.s.now a.at.0 62 c.if-s-i.false c.in-62.is (c.second-in-62.ensures ∙ two_is _ _ none)
 
 pub returns-in-94 : goal.returns-in-94
 unfolding first_word picked_of
