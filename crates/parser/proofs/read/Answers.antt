@@ -9,26 +9,28 @@ use Rattle.statement.proofs.source_file.Reads as source-file-reads
 use Rattle.trivia.proofs.first_high.Reads as first-high-reads
 use Rattle.parser.proofs.read.Goals as goal
 
--- src/lib.rt:98:9
 pub returns-then-text-gt-MAX_TEXT : goal.returns-then-text-gt-MAX_TEXT
 returns-then-text-gt-MAX_TEXT c = long_meets _ _ _ _ _ _ _ c.if-text-gt-MAX_TEXT.true
 
--- src/lib.rt:102:9
 pub returns-in-At : goal.returns-in-At
 returns-in-At c = high_meets _ _ _ _ _ _ _ _ c.if-text-gt-MAX_TEXT.false (sym (ap high_of c.in-At.is) ∙ c.first_high-high.ensures)
 
--- src/lib.rt:105:9
 pub returns-then-scope-gt-MAX_SCOPE : goal.returns-then-scope-gt-MAX_SCOPE
-returns-then-scope-gt-MAX_SCOPE c = scope_meets _ _ _ _ _ _ _ c.if-text-gt-MAX_TEXT.false (sym (ap high_of c.in_default.is) ∙ c.first_high-high.ensures) c.if-scope-gt-MAX_SCOPE.true
+returns-then-scope-gt-MAX_SCOPE c =
+    scope_meets _ _ _ _ _ _ _ c.if-text-gt-MAX_TEXT.false (sym (ap high_of c.in_default.is) ∙ c.first_high-high.ensures) c.if-scope-gt-MAX_SCOPE.true
 
--- src/lib.rt:108:9
 pub returns-then-level-gt-MAX_LEVEL : goal.returns-then-level-gt-MAX_LEVEL
-returns-then-level-gt-MAX_LEVEL c = level_meets _ _ _ _ _ _ _ c.if-text-gt-MAX_TEXT.false (sym (ap high_of c.in_default.is) ∙ c.first_high-high.ensures) c.if-scope-gt-MAX_SCOPE.false c.if-level-gt-MAX_LEVEL.true
+returns-then-level-gt-MAX_LEVEL c =
+    level_meets _ _ _ _ _ _ _ c.if-text-gt-MAX_TEXT.false (sym (ap high_of c.in_default.is) ∙ c.first_high-high.ensures) c.if-scope-gt-MAX_SCOPE.false
+    c.if-level-gt-MAX_LEVEL.true
 
--- src/lib.rt:117:5
 pub settle-requires : goal.settle-requires
-settle-requires c = does_so _ _ _ _ _ _ _ _ _ _ c.if-text-gt-MAX_TEXT.false (sym (ap high_of c.in_default.is) ∙ c.first_high-high.ensures) c.if-scope-gt-MAX_SCOPE.false c.if-level-gt-MAX_LEVEL.false c.source_file-done.ensures
+settle-requires c =
+    does_so _ _ _ _ _ _ _ _ _ _ c.if-text-gt-MAX_TEXT.false (sym (ap high_of c.in_default.is) ∙ c.first_high-high.ensures)
+    c.if-scope-gt-MAX_SCOPE.false c.if-level-gt-MAX_LEVEL.false c.source_file-done.ensures
 
--- src/lib.rt:86:1
 pub returns : goal.returns
-returns c = meets_lent _ _ _ _ _ _ _ _ _ _ _ _ _ _ c.source_file-done.auto.rows c.source_file-done.auto.errors c.source_file-done.auto.requests c.if-text-gt-MAX_TEXT.false (sym (ap high_of c.in_default.is) ∙ c.first_high-high.ensures) c.if-scope-gt-MAX_SCOPE.false c.if-level-gt-MAX_LEVEL.false c.settle.ensures
+returns c =
+    meets_lent _ _ _ _ _ _ _ _ _ _ _ _ _ _ c.source_file-done.auto.rows c.source_file-done.auto.errors c.source_file-done.auto.requests
+    c.if-text-gt-MAX_TEXT.false (sym (ap high_of c.in_default.is) ∙ c.first_high-high.ensures) c.if-scope-gt-MAX_SCOPE.false
+    c.if-level-gt-MAX_LEVEL.false c.settle.ensures

@@ -14,7 +14,10 @@ pub returns-then-errors-e : goal.returns-then-errors-e
 returns-then-errors-e c = errors_meet c.requires c.in-Got.c c.in-Got.st c.in-Got.is c.clear-then-errors-e.ensures c.if-rows-n.false c.if-errors-e.true
 
 pub returns-then-requests-q : goal.returns-then-requests-q
-returns-then-requests-q c = requests_meet c.requires c.in-Got.c c.in-Got.st c.in-Got.is c.clear-then-requests-q.ensures c.if-rows-n.false c.if-errors-e.false c.if-requests-q.true
+returns-then-requests-q c =
+    requests_meet c.requires c.in-Got.c c.in-Got.st c.in-Got.is c.clear-then-requests-q.ensures c.if-rows-n.false c.if-errors-e.false c.if-requests-q.true
 
 pub returns : goal.returns
-returns c = read_meets c.requires c.in-Got.c c.in-Got.st c.in-Got.is c.if-rows-n.false c.if-errors-e.false c.if-requests-q.false c.zero.ensures c.zero-2.ensures c.zero-3.ensures
+returns c =
+    read_meets c.requires c.in-Got.c c.in-Got.st c.in-Got.is c.if-rows-n.false c.if-errors-e.false c.if-requests-q.false c.zero.ensures
+    c.zero-2.ensures c.zero-3.ensures

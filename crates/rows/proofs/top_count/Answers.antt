@@ -10,5 +10,4 @@ loop-left-smaller c = walk_less _ _ _ (sym c.in-Subtree.ensures)
 
 pub loop-left-preserved : goal.loop-left-preserved
 loop-left-preserved c =
-    passed_more c.loop-left.invariant c.loop-left-test.true _
-    (sym c.in-Subtree.ensures)
+    passed_more c.loop-left.invariant c.loop-left-test.true _ (sym c.in-Subtree.ensures)

@@ -17,7 +17,8 @@ top_trivia-trivia-requires c =
     (u.many, u.each, c.if-length-gt-MAX_TEXT.false)
 
 pub returns-then-length-trivia : goal.returns-then-length-trivia
-returns-then-length-trivia c = too_much _ _ _ _ _ _ (tops_told _ _ _ _ c.in-Count.is c.tops-listed.ensures) _ c.top_trivia-trivia.ensures c.if-length-trivia.true
+returns-then-length-trivia c =
+    too_much _ _ _ _ _ _ (tops_told _ _ _ _ c.in-Count.is c.tops-listed.ensures) _ c.top_trivia-trivia.ensures c.if-length-trivia.true
 
 pub returns : goal.returns
 returns c =

@@ -8,8 +8,7 @@ loop-i-init c = (omega arith, sym (sum_none _), omega arith)
 
 pub returns-then-bytes-total : goal.returns-then-bytes-total
 returns-then-bytes-total c =
-    sum_above _ _ _ _ _ (sum_next _ _ _ _ c.loop-i.invariant.1 c.trivia_at-total.ensures.0)
-    c.loop-i-test.true c.if-bytes-total.true
+    sum_above _ _ _ _ _ (sum_next _ _ _ _ c.loop-i.invariant.1 c.trivia_at-total.ensures.0) c.loop-i-test.true c.if-bytes-total.true
 
 pub loop-i-preserved : goal.loop-i-preserved
 loop-i-preserved c =

@@ -1,4 +1,3 @@
--- The invariant: the table is that of a reading that fills in no line, with the lines of the rows so far, and the stretch has its line.
 use Prim.Native.Nat.{◌-◌}
 use native.Mathlib.Omega.{arith}
 use mathlib.Core.Path.{◌∙◌}
@@ -13,7 +12,9 @@ pub loop-d-init : goal.loop-d-init
 loop-d-init c = (c.start-here.ensures, filling_none _ _ (start_fit c.requires))
 
 pub overflow_add-n : goal.overflow_add-n
-overflow_add-n c = omega (arith, filling_few c.loop-d.invariant.1 c.token_behind-f.ensures c.in-Got.d c.in-Got.x c.in-Got.is c.token_behind-f.auto.rows c.token_behind-f.auto.errors c.token_behind-f.auto.requests)
+overflow_add-n c =
+    omega (arith,
+    filling_few c.loop-d.invariant.1 c.token_behind-f.ensures c.in-Got.d c.in-Got.x c.in-Got.is c.token_behind-f.auto.rows c.token_behind-f.auto.errors c.token_behind-f.auto.requests)
 
 pub number-here-requires : goal.number-here-requires
 number-here-requires c = (c.requires.0, c.loop-d.invariant.0, omega arith, filling_numbered c.loop-d.invariant.1 c.token_behind-f.ensures)
@@ -22,7 +23,8 @@ pub loop-d-smaller : goal.loop-d-smaller
 loop-d-smaller c = let w = filling_less c.loop-d.invariant.1 c.token_behind-f.ensures c.in-Got.d c.in-Got.x c.in-Got.is in omega (arith, w.0, w.1)
 
 pub loop-d-preserved : goal.loop-d-preserved
-loop-d-preserved c = (c.number-here.ensures.0, filling_more c.loop-d.invariant.1 c.token_behind-f.ensures c.in-Got.d c.in-Got.x c.in-Got.is c.token_behind-f.auto.rows c.token_behind-f.auto.errors c.token_behind-f.auto.requests c.number-here.ensures.1)
+loop-d-preserved c =
+    (c.number-here.ensures.0, filling_more c.loop-d.invariant.1 c.token_behind-f.ensures c.in-Got.d c.in-Got.x c.in-Got.is c.token_behind-f.auto.rows c.token_behind-f.auto.errors c.token_behind-f.auto.requests c.number-here.ensures.1)
 
 pub end-requires-clause-on : goal.end-requires-clause-on
 end-requires-clause-on c = (c.loop-d.invariant.0, filling_numbered c.loop-d.invariant.1 c.token_behind-f.ensures)

@@ -10,7 +10,9 @@ use Rattle.statement.proofs.Files.{start_fit, Filling, filling_none, filling_row
 use Rattle.statement.proofs.source_file.Given as goal
 
 abbrev pub invariant-loop-d : goal.invariant-loop-d
-invariant-loop-d l = On l.s l.here × Filling l.s l.left l.initial.state (tables l.initial.rows l.initial.errors l.initial.requests) l.at l.count l.state (tables l.rows l.errors l.requests)
+invariant-loop-d l =
+    On l.s l.here
+    × Filling l.s l.left l.initial.state (tables l.initial.rows l.initial.errors l.initial.requests) l.at l.count l.state (tables l.rows l.errors l.requests)
 
 abbrev pub decreases-loop-d : goal.decreases-loop-d
 decreases-loop-d l = length l.s - l.at

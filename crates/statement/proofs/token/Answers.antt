@@ -8,14 +8,11 @@ use Rattle.statement.proofs.stmt.statement.Reads as statement-reads
 use Rattle.statement.proofs.text.error.Reads as error-reads
 use Rattle.statement.proofs.token.Goals as goal
 
--- src/lib.rt:38:9
 pub returns-in_default : goal.returns-in_default
 returns-in_default c = does_first c.statement-r.ensures c.in_default.not-Miss
 
--- src/lib.rt:40:5
 pub error-requires : goal.error-requires
 error-requires c = fit_next c.statement-r.ensures c.requires statement_sober c.in-Miss.x c.in-Miss.is
 
--- src/lib.rt:32:1
 pub returns : goal.returns
 returns c = does_next c.statement-r.ensures c.in-Miss.x c.in-Miss.is (c.error.ensures.does _ _)

@@ -13,11 +13,9 @@ returns-in_default c = seq_stop (reads_leaf _ c.char-f.ensures) expression c.in_
 
 pub expression-requires : goal.expression-requires
 expression-requires c =
-    (next (paid_up (char_solid 61)) c.requires (reads_leaf 0
-    c.char-f.ensures) c.in-Got.is).ready
+    (next (paid_up (char_solid 61)) c.requires (reads_leaf 0 c.char-f.ensures) c.in-Got.is).ready
 
 pub returns : goal.returns
 unfolding assigned char_of
 returns c =
-    seq_on (reads_leaf _ c.char-f.ensures) (char_solid 61).quieted
-    c.in-Got.is c.expression.ensures
+    seq_on (reads_leaf _ c.char-f.ensures) (char_solid 61).quieted c.in-Got.is c.expression.ensures

@@ -16,9 +16,7 @@ returns-in_default c = record { reads = λ left. seq_stop (c.directive-f.ensures
 pub name-requires : goal.name-requires
 unfolding directive_of
 name-requires c =
-    (next (paid_up (word_solid wordᵏ 0 _ (lit≤ tt)))
-    c.requires.ready
-    (c.directive-f.ensures.reads 0) c.in-Got.is).ready
+    (next (paid_up (word_solid wordᵏ 0 _ (lit≤ tt))) c.requires.ready (c.directive-f.ensures.reads 0) c.in-Got.is).ready
 
 pub returns : goal.returns
 unfolding define_head directive_of word_of

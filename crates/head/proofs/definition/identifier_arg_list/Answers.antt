@@ -18,7 +18,7 @@ pub loop-d-init : goal.loop-d-init
 loop-d-init c = λ left. listed_none name (char_of 44) _ left _ _ _ _ c.requires.within
 
 pub name-f-requires : goal.name-f-requires
-name-f-requires c = (progress_ready (c.loop-d.invariant 0).progress c.requires)
+name-f-requires c = progress_ready (c.loop-d.invariant 0).progress c.requires
 
 pub returns-in_default : goal.returns-in_default
 unfolding identifier_arg_list char_of
@@ -36,24 +36,14 @@ char-g-requires c =
 
 pub loop-d-smaller : goal.loop-d-smaller
 loop-d-smaller c =
-    let a = list_step
-    (c.loop-d.invariant 0)
-    (reads_leaf 0 c.name-f.ensures)
-    name_solid _ c.in-Got.is in
+    let a = list_step (c.loop-d.invariant 0) (reads_leaf 0 c.name-f.ensures) name_solid _ c.in-Got.is in
     let b = stepped (char_solid 44) _ a.within (c.char-g.ensures.reading 0 0) c.in-Got-g.is in
     omega (arith, a.on, b.on, b.within)
 
 pub loop-d-preserved : goal.loop-d-preserved
 loop-d-preserved c =
-    λ left.
-    list_more
-    (c.loop-d.invariant
-    left) (reads_leaf left
-    c.name-f.ensures) name_solid _
-    c.in-Got.is
-    c.char-g.ensures name_comma_solid _ c.in-Got-g.is
-    c.name-f.auto.rows
-    c.char-g.auto.rows
+    λ left. list_more (c.loop-d.invariant left) (reads_leaf left c.name-f.ensures) name_solid _ c.in-Got.is c.char-g.ensures name_comma_solid _
+    c.in-Got-g.is c.name-f.auto.rows c.char-g.auto.rows
 
 pub returns-in-Miss : goal.returns-in-Miss
 unfolding identifier_arg_list char_of

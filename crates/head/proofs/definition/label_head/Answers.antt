@@ -30,11 +30,8 @@ char-requires c =
 pub returns : goal.returns
 unfolding label_head mname colon
 returns c =
-    let a = (c.name-f.ensures.leafs multiline_trivia
-    c.requires.skips) in
-    let x = (next (paid_up mname_solid)
-    c.requires.ready (reads_leaf 0 a)
-    c.in-Got.is).ready in
+    let a = (c.name-f.ensures.leafs multiline_trivia c.requires.skips) in
+    let x = (next (paid_up mname_solid) c.requires.ready (reads_leaf 0 a) c.in-Got.is).ready in
     let b = c.char.ensures.leafs empty (skips_empty _ _ _ x.within) in
     record {
       reads = λ left. seq_on (reads_leaf left a) mname_solid.quieted c.in-Got.is

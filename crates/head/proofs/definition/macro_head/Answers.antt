@@ -16,9 +16,7 @@ returns-in_default c = record { reads = λ left. seq_stop (c.directive-f.ensures
 pub name-g-requires : goal.name-g-requires
 unfolding directive_of
 name-g-requires c =
-    (next (paid_up (word_solid wordᵏ 0 _ (lit≤ tt)))
-    c.requires.ready
-    (c.directive-f.ensures.reads 0) c.in-Got.is).ready
+    (next (paid_up (word_solid wordᵏ 0 _ (lit≤ tt))) c.requires.ready (c.directive-f.ensures.reads 0) c.in-Got.is).ready
 
 pub returns-in_default-g : goal.returns-in_default-g
 unfolding macro_head directive_of word_of
@@ -33,10 +31,7 @@ returns-in_default-g c =
 pub parameters-requires : goal.parameters-requires
 unfolding directive_of
 parameters-requires c =
-    let d = (next (paid_up (word_solid wordᵏ 0 _ (lit≤ tt)))
-    c.requires.ready
-    (c.directive-f.ensures.reads 0)
-    c.in-Got.is).ready in
+    let d = (next (paid_up (word_solid wordᵏ 0 _ (lit≤ tt))) c.requires.ready (c.directive-f.ensures.reads 0) c.in-Got.is).ready in
     (next (paid_up name_solid) d (reads_leaf 0 c.name-g.ensures) c.in-Got-g.is).ready
 
 pub returns : goal.returns

@@ -12,11 +12,9 @@ returns-in_default c = seq_stop (reads_leaf _ c.name-f.ensures) assigned c.in_de
 
 pub assigned-requires : goal.assigned-requires
 assigned-requires c =
-    (next (paid_up name_solid) c.requires (reads_leaf 0
-    c.name-f.ensures) c.in-Got.is).ready
+    (next (paid_up name_solid) c.requires (reads_leaf 0 c.name-f.ensures) c.in-Got.is).ready
 
 pub returns : goal.returns
 unfolding named
 returns c =
-    seq_on (reads_leaf _ c.name-f.ensures) name_solid.quieted
-    c.in-Got.is c.assigned.ensures
+    seq_on (reads_leaf _ c.name-f.ensures) name_solid.quieted c.in-Got.is c.assigned.ensures

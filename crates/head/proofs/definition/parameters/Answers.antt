@@ -12,8 +12,7 @@ returns-in_default c = record { reads = λ left. seq_stop (reads_leaf left c.cha
 
 pub identifier_arg_list-g-requires : goal.identifier_arg_list-g-requires
 identifier_arg_list-g-requires c =
-    (next (paid_up (char_solid 40)) c.requires (reads_leaf 0
-    c.char-f.ensures) c.in-Got.is).ready
+    (next (paid_up (char_solid 40)) c.requires (reads_leaf 0 c.char-f.ensures) c.in-Got.is).ready
 
 pub returns-in_default-h : goal.returns-in_default-h
 unfolding parameters char_of
@@ -28,12 +27,8 @@ returns-in_default-h c =
 
 pub char-requires : goal.char-requires
 char-requires c =
-    let d = (next (paid_up (char_solid 40))
-    c.requires
-    (reads_leaf 0 c.char-f.ensures)
-    c.in-Got.is).ready in
-    (next names_owing d (reads_optional (c.identifier_arg_list-g.ensures.reads 0)
-    c.optional-h.ensures) c.in-Got-h.is).ready
+    let d = (next (paid_up (char_solid 40)) c.requires (reads_leaf 0 c.char-f.ensures) c.in-Got.is).ready in
+    (next names_owing d (reads_optional (c.identifier_arg_list-g.ensures.reads 0) c.optional-h.ensures) c.in-Got-h.is).ready
 
 pub returns : goal.returns
 unfolding parameters char_of

@@ -12,8 +12,7 @@ use Rattle.head.proofs.definition.varconst.Goals as goal
 pub returns-in_default : goal.returns-in_default
 unfolding varconst word_of
 returns-in_default c =
-    over_stop variable_definitionᵏ named (reads_leaf _ (c.word-f.ensures.leafs multiline_trivia
-    c.requires.skips)) c.in_default.not-Got
+    over_stop variable_definitionᵏ named (reads_leaf _ (c.word-f.ensures.leafs multiline_trivia c.requires.skips)) c.in_default.not-Got
 
 pub named-g-requires : goal.named-g-requires
 unfolding word_of

@@ -15,22 +15,16 @@ returns-in_default c = over_stop assertᵏ asserted (c.directive-f.ensures.reads
 pub asserted-g-requires : goal.asserted-g-requires
 unfolding directive_of
 asserted-g-requires c =
-    rest_ready (word_begins (c.requires.ready, c.requires.skips) wordᵏ 0 _ (lit≤ tt))
-    (c.directive-f.ensures.reads 0) c.in-Got.is
+    rest_ready (word_begins (c.requires.ready, c.requires.skips) wordᵏ 0 _ (lit≤ tt)) (c.directive-f.ensures.reads 0) c.in-Got.is
 
 pub whole-requires-clause-closable : goal.whole-requires-clause-closable
 unfolding directive_of
 whole-requires-clause-closable c = rest_closable (word_begins
-    (c.requires.ready, c.requires.skips) wordᵏ 0 _ (lit≤
-    tt)) (c.directive-f.ensures.reads _)
-    c.in-Got.is asserted_owing (lit≤ tt) c.asserted-g.ensures
+    (c.requires.ready, c.requires.skips) wordᵏ 0 _ (lit≤ tt)) (c.directive-f.ensures.reads _) c.in-Got.is asserted_owing (lit≤ tt)
+    c.asserted-g.ensures
 
 pub returns : goal.returns
 unfolding assert directive_of word_of asserted
 returns c =
-    rest_whole (word_begins
-    (c.requires.ready, c.requires.skips)
-    wordᵏ 0 _ (lit≤ tt))
-    (c.directive-f.ensures.reads _)
-    c.in-Got.is asserted_owing (lit≤ tt)
-    c.asserted-g.ensures assertᵏ c.whole.ensures
+    rest_whole (word_begins (c.requires.ready, c.requires.skips) wordᵏ 0 _ (lit≤ tt)) (c.directive-f.ensures.reads _) c.in-Got.is asserted_owing
+    (lit≤ tt) c.asserted-g.ensures assertᵏ c.whole.ensures

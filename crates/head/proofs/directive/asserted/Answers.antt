@@ -13,12 +13,9 @@ returns-in_default c = seq_stop c.expression-f.ensures (opt interpolated_string)
 
 pub string-g-requires : goal.string-g-requires
 string-g-requires c =
-    (next expression_owing c.requires
-    c.expression-f.ensures c.in-Got.is).ready
+    (next expression_owing c.requires c.expression-f.ensures c.in-Got.is).ready
 
 pub returns : goal.returns
 unfolding asserted
 returns c =
-    seq_on c.expression-f.ensures expression_owing.quieted
-    c.in-Got.is
-    (reads_optional (reads_leaf _ c.string-g.ensures) c.optional.ensures)
+    seq_on c.expression-f.ensures expression_owing.quieted c.in-Got.is (reads_optional (reads_leaf _ c.string-g.ensures) c.optional.ensures)

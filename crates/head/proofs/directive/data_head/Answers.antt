@@ -16,16 +16,13 @@ returns-in_default c =
 
 pub wide_size-requires-clause-skips : goal.wide_size-requires-clause-skips
 wide_size-requires-clause-skips c =
-    let a = c.word-f.ensures.leafs multiline_trivia
-    c.requires.skips in skip_again c.requires.skips
-    (reads_leaf 0 a) c.in-Miss.is
+    let a = c.word-f.ensures.leafs multiline_trivia c.requires.skips in
+    skip_again c.requires.skips (reads_leaf 0 a) c.in-Miss.is
 
 pub returns : goal.returns
 unfolding data_size wide_size
 returns c =
-    let a = c.word-f.ensures.leafs multiline_trivia
-    c.requires.skips
-    in
+    let a = c.word-f.ensures.leafs multiline_trivia c.requires.skips in
     record {
       reads = λ left. or_on (reads_leaf left a) c.in-Miss.is
           (c.wide_size.ensures.reads left);

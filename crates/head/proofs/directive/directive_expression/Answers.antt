@@ -14,13 +14,9 @@ returns-in_default c = seq_stop (c.directive-f.ensures.reads _) expression c.in_
 pub expression-requires : goal.expression-requires
 unfolding directive_of
 expression-requires c =
-    (next (paid_up (word_solid wordᵏ 0 _ c.requires.in_bounds))
-    c.requires.ready
-    (c.directive-f.ensures.reads 0) c.in-Got.is).ready
+    (next (paid_up (word_solid wordᵏ 0 _ c.requires.in_bounds)) c.requires.ready (c.directive-f.ensures.reads 0) c.in-Got.is).ready
 
 pub returns : goal.returns
 unfolding directive_expression directive_of
 returns c =
-    seq_on (c.directive-f.ensures.reads _) (word_solid wordᵏ 0 _
-    c.requires.in_bounds).quieted
-    c.in-Got.is c.expression.ensures
+    seq_on (c.directive-f.ensures.reads _) (word_solid wordᵏ 0 _ c.requires.in_bounds).quieted c.in-Got.is c.expression.ensures

@@ -11,5 +11,4 @@ returns-in_default c = or_stop c.encoding_expression-f.ensures expression c.in_d
 pub returns : goal.returns
 unfolding encoded
 returns c =
-    or_on c.encoding_expression-f.ensures
-    c.in-Miss.is c.expression.ensures
+    or_on c.encoding_expression-f.ensures c.in-Miss.is c.expression.ensures

@@ -11,10 +11,8 @@ returns-in_default c = seq_stop (reads_leaf _ c.encoding-f.ensures) expression c
 
 pub expression-requires : goal.expression-requires
 expression-requires c =
-    (next (paid_up encoding_solid) c.requires (reads_leaf 0
-    c.encoding-f.ensures) c.in-Got.is).ready
+    (next (paid_up encoding_solid) c.requires (reads_leaf 0 c.encoding-f.ensures) c.in-Got.is).ready
 
 pub returns : goal.returns
 returns c =
-    seq_on (reads_leaf _ c.encoding-f.ensures) encoding_solid.quieted
-    c.in-Got.is c.expression.ensures
+    seq_on (reads_leaf _ c.encoding-f.ensures) encoding_solid.quieted c.in-Got.is c.expression.ensures

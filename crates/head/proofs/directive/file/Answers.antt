@@ -17,23 +17,18 @@ returns-in_default c = record { reads = λ left. over_stop fileᵏ interpolated_
 pub string-g-requires : goal.string-g-requires
 unfolding directive_of
 string-g-requires c =
-    rest_ready (word_begins (c.requires.ready, c.requires.skips) wordᵏ 0 _ (lit≤ tt))
-    (c.directive-f.ensures.reads 0) c.in-Got.is
+    rest_ready (word_begins (c.requires.ready, c.requires.skips) wordᵏ 0 _ (lit≤ tt)) (c.directive-f.ensures.reads 0) c.in-Got.is
 
 pub whole-requires-clause-closable : goal.whole-requires-clause-closable
 unfolding directive_of
 whole-requires-clause-closable c = rest_closable (word_begins
-    (c.requires.ready, c.requires.skips) wordᵏ 0 _ (lit≤
-    tt)) (c.directive-f.ensures.reads 0)
-    c.in-Got.is (string_owing true) (lit≤ tt) (reads_leaf 0
+    (c.requires.ready, c.requires.skips) wordᵏ 0 _ (lit≤ tt)) (c.directive-f.ensures.reads 0) c.in-Got.is (string_owing true) (lit≤ tt) (reads_leaf 0
     c.string-g.ensures)
 
 pub returns : goal.returns
 unfolding file directive_of word_of
 returns c =
-    let b = (word_begins
-    (c.requires.ready, c.requires.skips)
-    wordᵏ 0 _ (lit≤ tt)) in
+    let b = (word_begins (c.requires.ready, c.requires.skips) wordᵏ 0 _ (lit≤ tt)) in
     record {
       reads = λ left.
           rest_whole b

@@ -16,24 +16,16 @@ returns-in_default c = over_stop traceᵏ (opt traced) (c.directive-f.ensures.re
 pub traced-g-requires : goal.traced-g-requires
 unfolding directive_of
 traced-g-requires c =
-    rest_ready (word_begins (c.requires.ready, c.requires.skips) wordᵏ 0 _ (lit≤ tt))
-    (c.directive-f.ensures.reads 0) c.in-Got.is
+    rest_ready (word_begins (c.requires.ready, c.requires.skips) wordᵏ 0 _ (lit≤ tt)) (c.directive-f.ensures.reads 0) c.in-Got.is
 
 pub whole-requires-clause-closable : goal.whole-requires-clause-closable
 unfolding directive_of
 whole-requires-clause-closable c = rest_closable (word_begins
-    (c.requires.ready, c.requires.skips) wordᵏ 0 _
-    (lit≤ tt)) (c.directive-f.ensures.reads _)
-    c.in-Got.is traced_owing (lit≤ tt) (reads_optional
+    (c.requires.ready, c.requires.skips) wordᵏ 0 _ (lit≤ tt)) (c.directive-f.ensures.reads _) c.in-Got.is traced_owing (lit≤ tt) (reads_optional
     c.traced-g.ensures c.optional-h.ensures)
 
 pub returns : goal.returns
 unfolding trace directive_of word_of traced
 returns c =
-    rest_whole (word_begins
-    (c.requires.ready, c.requires.skips)
-    wordᵏ 0 _ (lit≤ tt))
-    (c.directive-f.ensures.reads _)
-    c.in-Got.is traced_owing (lit≤ tt) (reads_optional
-    c.traced-g.ensures c.optional-h.ensures) traceᵏ
-    c.whole.ensures
+    rest_whole (word_begins (c.requires.ready, c.requires.skips) wordᵏ 0 _ (lit≤ tt)) (c.directive-f.ensures.reads _) c.in-Got.is traced_owing
+    (lit≤ tt) (reads_optional c.traced-g.ensures c.optional-h.ensures) traceᵏ c.whole.ensures

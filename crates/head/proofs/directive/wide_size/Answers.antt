@@ -16,10 +16,6 @@ returns-in_default c =
 pub returns : goal.returns
 unfolding wide_size
 returns c =
-    let a = c.word-f.ensures.leafs multiline_trivia
-    c.requires.skips
-    in
-    let b = c.word.ensures.leafs multiline_trivia (skip_again
-    c.requires.skips
-    (reads_leaf 0 a) c.in-Miss.is) in
+    let a = c.word-f.ensures.leafs multiline_trivia c.requires.skips in
+    let b = c.word.ensures.leafs multiline_trivia (skip_again c.requires.skips (reads_leaf 0 a) c.in-Miss.is) in
     record { reads = λ left. or_on (reads_leaf left a) c.in-Miss.is (reads_leaf left b) }

@@ -13,8 +13,7 @@ returns-in_default c = record { reads = λ left. seq_stop (reads_leaf left c.cha
 
 pub renamed-requires : goal.renamed-requires
 renamed-requires c =
-    (next (paid_up (char_solid 42)) c.requires (reads_leaf 0
-    c.char-f.ensures) c.in-Got.is).ready
+    (next (paid_up (char_solid 42)) c.requires (reads_leaf 0 c.char-f.ensures) c.in-Got.is).ready
 
 pub returns : goal.returns
 unfolding char_of

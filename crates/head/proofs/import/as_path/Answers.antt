@@ -17,9 +17,7 @@ returns-in_default c =
 
 pub path-requires : goal.path-requires
 path-requires c =
-    (next (paid_up as_solid) c.requires (reads_leaf 0
-    (c.word-f.ensures.leafs trivia
-    c.trivia-k.ensures)) c.in-Got.is).ready
+    (next (paid_up as_solid) c.requires (reads_leaf 0 (c.word-f.ensures.leafs trivia c.trivia-k.ensures)) c.in-Got.is).ready
 
 pub returns : goal.returns
 unfolding as_path

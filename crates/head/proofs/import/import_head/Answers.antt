@@ -14,9 +14,7 @@ returns-in_default c = record { reads = λ left. seq_stop (c.directive-f.ensures
 pub import_names-requires : goal.import_names-requires
 unfolding directive_of
 import_names-requires c =
-    (next (paid_up (word_solid wordᵏ 0 _ (lit≤ tt)))
-    c.requires.ready
-    (c.directive-f.ensures.reads 0) c.in-Got.is).ready
+    (next (paid_up (word_solid wordᵏ 0 _ (lit≤ tt))) c.requires.ready (c.directive-f.ensures.reads 0) c.in-Got.is).ready
 
 pub returns : goal.returns
 unfolding import_head directive_of word_of

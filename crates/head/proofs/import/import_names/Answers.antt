@@ -15,14 +15,11 @@ returns-in_default c = record { reads = λ left. seq_stop (c.import_args-f.ensur
 
 pub multiline_trivia-k-requires : goal.multiline_trivia-k-requires
 multiline_trivia-k-requires c =
-    (next import_args_owing c.requires
-    (c.import_args-f.ensures.reads 0) c.in-Got.is).ready.within
+    (next import_args_owing c.requires (c.import_args-f.ensures.reads 0) c.in-Got.is).ready.within
 
 pub word-requires-clause-placed : goal.word-requires-clause-placed
 word-requires-clause-placed c =
-    let d = (next import_args_owing c.requires
-    (c.import_args-f.ensures.reads 0)
-    c.in-Got.is).ready in placed d (lit≤ tt) c.multiline_trivia-k.ensures
+    let d = (next import_args_owing c.requires (c.import_args-f.ensures.reads 0) c.in-Got.is).ready in placed d (lit≤ tt) c.multiline_trivia-k.ensures
 
 pub returns : goal.returns
 unfolding import_names

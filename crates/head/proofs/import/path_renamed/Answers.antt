@@ -11,8 +11,7 @@ returns-in_default c = record { reads = λ left. seq_stop (reads_leaf left c.pat
 
 pub renamed-requires : goal.renamed-requires
 renamed-requires c =
-    (next (paid_up path_solid) c.requires (reads_leaf 0
-    c.path-f.ensures) c.in-Got.is).ready
+    (next (paid_up path_solid) c.requires (reads_leaf 0 c.path-f.ensures) c.in-Got.is).ready
 
 pub returns : goal.returns
 returns c =

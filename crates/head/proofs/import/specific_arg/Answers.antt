@@ -10,13 +10,11 @@ use Rattle.head.proofs.import.specific_arg.Goals as goal
 
 pub whole-requires-clause-closable : goal.whole-requires-clause-closable
 whole-requires-clause-closable c = closable renamed_owing (lit≤ tt) c.requires c.trivia-k.ensures (behind_ready
-    c.requires c.trivia-k.ensures) (omega arith)
-    (c.path_renamed-f.ensures.reads 0)
+    c.requires c.trivia-k.ensures) (omega arith) (c.path_renamed-f.ensures.reads 0)
 
 pub returns : goal.returns
 unfolding specific_arg
 returns c =
-    let i = closable renamed_owing (lit≤ tt)
-    c.requires c.trivia-k.ensures (behind_ready
-    c.requires c.trivia-k.ensures) (omega arith) (c.path_renamed-f.ensures.reads 0) in
+    let i = closable renamed_owing (lit≤ tt) c.requires c.trivia-k.ensures (behind_ready c.requires c.trivia-k.ensures) (omega arith)
+    (c.path_renamed-f.ensures.reads 0) in
     record { reads = λ left. node_whole import_argumentᵏ c.trivia-k.ensures renamed_owing.quieted (c.path_renamed-f.ensures.reads left) i c.whole.ensures }

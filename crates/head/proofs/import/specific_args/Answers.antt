@@ -17,7 +17,7 @@ pub loop-d-init : goal.loop-d-init
 loop-d-init c = λ left. listed_none specific_arg (char_of 44) _ left _ _ _ _ c.requires.within
 
 pub specific_arg-f-requires : goal.specific_arg-f-requires
-specific_arg-f-requires c = (progress_ready (c.loop-d.invariant 0).progress c.requires)
+specific_arg-f-requires c = progress_ready (c.loop-d.invariant 0).progress c.requires
 
 pub returns-in_default : goal.returns-in_default
 unfolding char_of
@@ -36,22 +36,14 @@ char-g-requires c =
 
 pub loop-d-smaller : goal.loop-d-smaller
 loop-d-smaller c =
-    let a = list_step
-    (c.loop-d.invariant 0)
-    (c.specific_arg-f.ensures.reads
-    0) specific_solid _ c.in-Got.is in
+    let a = list_step (c.loop-d.invariant 0) (c.specific_arg-f.ensures.reads 0) specific_solid _ c.in-Got.is in
     let b = stepped (char_solid 44) _ a.within (c.char-g.ensures.reading 0 0) c.in-Got-g.is in
     omega (arith, a.on, b.on, b.within)
 
 pub loop-d-preserved : goal.loop-d-preserved
 loop-d-preserved c =
-    λ left.
-    list_more
-    (c.loop-d.invariant
-    left) (c.specific_arg-f.ensures.reads left) specific_solid _ c.in-Got.is
-    c.char-g.ensures specific_comma_solid _ c.in-Got-g.is
-    c.specific_arg-f.auto.rows
-    c.char-g.auto.rows
+    λ left. list_more (c.loop-d.invariant left) (c.specific_arg-f.ensures.reads left) specific_solid _ c.in-Got.is c.char-g.ensures
+    specific_comma_solid _ c.in-Got-g.is c.specific_arg-f.auto.rows c.char-g.auto.rows
 
 pub returns-in-Miss : goal.returns-in-Miss
 unfolding char_of

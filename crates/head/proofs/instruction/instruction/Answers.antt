@@ -16,5 +16,4 @@ implied-requires-clause-skips c = skip_again c.requires.skips
 pub returns : goal.returns
 unfolding instruction with_operand implied
 returns c =
-    or_on c.with_operand-f.ensures
-    c.in-Miss.is c.implied.ensures
+    or_on c.with_operand-f.ensures c.in-Miss.is c.implied.ensures

@@ -15,33 +15,21 @@ use Rattle.head.proofs.instruction.with_operand.Goals as goal
 pub returns-in_default : goal.returns-in_default
 unfolding with_operand
 returns-in_default c =
-    over_stop instructionᵏ (opt operand) (reads_leaf _ (c.mnemonic-f.ensures.leafs multiline_trivia
-    c.requires.skips)) c.in_default.not-Got
+    over_stop instructionᵏ (opt operand) (reads_leaf _ (c.mnemonic-f.ensures.leafs multiline_trivia c.requires.skips)) c.in_default.not-Got
 
 pub operand-g-requires : goal.operand-g-requires
 operand-g-requires c =
-    rest_ready (mnemonic_begins (c.requires.ready, c.requires.skips) false) (reads_leaf 0
-    (c.mnemonic-f.ensures.leafs multiline_trivia
-    c.requires.skips)) c.in-Got.is
+    rest_ready (mnemonic_begins (c.requires.ready, c.requires.skips) false)
+    (reads_leaf 0 (c.mnemonic-f.ensures.leafs multiline_trivia c.requires.skips)) c.in-Got.is
 
 pub whole-requires-clause-closable : goal.whole-requires-clause-closable
 whole-requires-clause-closable c = rest_closable (mnemonic_begins
-    (c.requires.ready, c.requires.skips) false)
-    (reads_leaf _ (c.mnemonic-f.ensures.leafs
-    multiline_trivia
-    c.requires.skips))
-    c.in-Got.is operand_owing (lit≤ tt) (reads_optional
-    c.operand-g.ensures c.optional-h.ensures)
+    (c.requires.ready, c.requires.skips) false) (reads_leaf _ (c.mnemonic-f.ensures.leafs multiline_trivia c.requires.skips)) c.in-Got.is
+    operand_owing (lit≤ tt) (reads_optional c.operand-g.ensures c.optional-h.ensures)
 
 pub returns : goal.returns
 unfolding with_operand
 returns c =
-    rest_whole (mnemonic_begins
-    (c.requires.ready, c.requires.skips)
-    false) (reads_leaf _
-    (c.mnemonic-f.ensures.leafs
-    multiline_trivia
-    c.requires.skips))
-    c.in-Got.is operand_owing (lit≤ tt) (reads_optional
-    c.operand-g.ensures c.optional-h.ensures) instructionᵏ
-    c.whole.ensures
+    rest_whole (mnemonic_begins (c.requires.ready, c.requires.skips) false)
+    (reads_leaf _ (c.mnemonic-f.ensures.leafs multiline_trivia c.requires.skips)) c.in-Got.is operand_owing (lit≤ tt)
+    (reads_optional c.operand-g.ensures c.optional-h.ensures) instructionᵏ c.whole.ensures

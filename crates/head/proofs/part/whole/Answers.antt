@@ -8,6 +8,4 @@ returns-in_default c = whole_none _ _ _ c.args.f _ c.in_default.not-Got
 
 pub returns : goal.returns
 returns c =
-    whole_some _ c.args.c
-    c.args.k
-    c.in-Got.is c.push_row.ensures
+    whole_some _ c.args.c c.args.k c.in-Got.is c.push_row.ensures

@@ -14,14 +14,13 @@ use Rattle.table.proofs.push_row.Reads as push-row-reads
 use Rattle.trivia.proofs.multiline_trivia.Reads as multiline-trivia-reads
 use Rattle.statement.proofs.brace.close.Goals as goal
 
--- src/brace.rt:53:9
 pub returns-in_default : goal.returns-in_default
 returns-in_default c = shut_first c.mark-r.ensures c.in_default.not-Miss
 
--- src/brace.rt:65:9
 pub report-y-requires : goal.report-y-requires
-report-y-requires c = let f = fit_next (c.mark-r.ensures.does 0 []) c.requires.fit (mark_paid 125).0 c.in-Miss.x c.in-Miss.is in let k = fit_errors f in omega (arith, c.requires.fit.small, c.requires.fit.within, k)
+report-y-requires c =
+    let f = fit_next (c.mark-r.ensures.does 0 []) c.requires.fit (mark_paid 125).0 c.in-Miss.x c.in-Miss.is in
+    let k = fit_errors f in omega (arith, c.requires.fit.small, c.requires.fit.within, k)
 
--- src/brace.rt:43:1
 pub returns : goal.returns
 returns c = shut_missing c.mark-r.ensures c.in-Miss.x c.in-Miss.is c.push_row.ensures c.report-y.ensures

@@ -7,10 +7,8 @@ use Rattle.lexis.proofs.mark.char.Reads as char-reads
 use Rattle.statement.proofs.lift.lifted.Reads as lifted-reads
 use Rattle.statement.proofs.brace.mark.Goals as goal
 
--- src/brace.rt:38:5
 pub lifted-requires : goal.lifted-requires
 lifted-requires c = fit_lifts c.requires.fit
 
--- src/brace.rt:20:1
 pub returns : goal.returns
 returns c = mark_tells c.requires.fit c.requires.skips c.lifted.ensures _ c.char-f.ensures

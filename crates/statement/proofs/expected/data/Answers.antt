@@ -14,26 +14,29 @@ use Rattle.statement.proofs.row.close.Reads as close-reads
 use Rattle.statement.proofs.start.data_head.Reads as data-head-reads
 use Rattle.statement.proofs.expected.data.Goals as goal
 
--- src/expected.rt:107:9
 pub returns-in_default : goal.returns-in_default
 returns-in_default c = data_out c.data_head-f.ensures c.in_default.not-Got
 
--- src/expected.rt:109:9
 pub values-g-requires-clause-fit : goal.values-g-requires-clause-fit
 values-g-requires-clause-fit c = fit_then (c.data_head-f.ensures.does 0 []) c.requires.fit size_paid c.in-Got.d c.in-Got.x c.in-Got.is
 
--- src/expected.rt:109:9
 pub values-g-requires-clause-le_at : goal.values-g-requires-clause-le_at
-values-g-requires-clause-le_at c = let m = moved_then (c.data_head-f.ensures.does 0 []) c.requires.fit size_moves c.in-Got.d c.in-Got.x c.in-Got.is in omega (arith, m)
+values-g-requires-clause-le_at c =
+    let m = moved_then (c.data_head-f.ensures.does 0 []) c.requires.fit size_moves c.in-Got.d c.in-Got.x c.in-Got.is in
+    omega (arith, m)
 
--- src/expected.rt:111:9
 pub returns-in_default-g : goal.returns-in_default-g
 returns-in_default-g c = data_values_out c.data_head-f.ensures c.in-Got.d c.in-Got.x c.in-Got.is c.values-g.ensures c.in_default-g.not-Got
 
--- src/expected.rt:113:5
 pub close-requires-clause-spans : goal.close-requires-clause-spans
-close-requires-clause-spans c = let d = does_then (c.data_head-f.ensures.does _ []) c.in-Got.d c.in-Got.x c.in-Got.is (c.values-g.ensures.does []) in let ef = fit_then d c.requires.fit data_paid c.in-Got-g.e c.in-Got-g.y c.in-Got-g.is in let eg = grown_then d c.requires.fit data_paid c.in-Got-g.e c.in-Got-g.y c.in-Got-g.is in spans c.requires.skips ef eg
+close-requires-clause-spans c =
+    let d = does_then (c.data_head-f.ensures.does _ []) c.in-Got.d c.in-Got.x c.in-Got.is (c.values-g.ensures.does []) in
+    let ef = fit_then d c.requires.fit data_paid c.in-Got-g.e c.in-Got-g.y c.in-Got-g.is in let eg = grown_then d c.requires.fit data_paid
+    c.in-Got-g.e c.in-Got-g.y c.in-Got-g.is in spans c.requires.skips ef eg
 
--- src/expected.rt:100:1
 pub returns : goal.returns
-returns c = let d = does_then (c.data_head-f.ensures.does _ []) c.in-Got.d c.in-Got.x c.in-Got.is (c.values-g.ensures.does []) in let ef = fit_then d c.requires.fit data_paid c.in-Got-g.e c.in-Got-g.y c.in-Got-g.is in let eg = grown_then d c.requires.fit data_paid c.in-Got-g.e c.in-Got-g.y c.in-Got-g.is in data_got c.data_head-f.ensures c.in-Got.d c.in-Got.x c.in-Got.is c.values-g.ensures c.requires.skips c.in-Got-g.e c.in-Got-g.y c.in-Got-g.is eg c.close.ensures
+returns c =
+    let d = does_then (c.data_head-f.ensures.does _ []) c.in-Got.d c.in-Got.x c.in-Got.is (c.values-g.ensures.does []) in
+    let ef = fit_then d c.requires.fit data_paid c.in-Got-g.e c.in-Got-g.y c.in-Got-g.is in let eg = grown_then d c.requires.fit data_paid
+    c.in-Got-g.e c.in-Got-g.y c.in-Got-g.is in data_got c.data_head-f.ensures c.in-Got.d c.in-Got.x c.in-Got.is c.values-g.ensures c.requires.skips
+    c.in-Got-g.e c.in-Got-g.y c.in-Got-g.is eg c.close.ensures

@@ -14,22 +14,24 @@ use Rattle.statement.proofs.row.close.Reads as close-reads
 use Rattle.statement.proofs.start.define_head.Reads as define-head-reads
 use Rattle.statement.proofs.expected.definition.Goals as goal
 
--- src/expected.rt:58:9
 pub returns-in_default : goal.returns-in_default
 returns-in_default c = definition_out c.define_head-f.ensures c.in_default.not-Got
 
--- src/expected.rt:60:9
 pub map-g-requires : goal.map-g-requires
 map-g-requires c = fit_then (c.define_head-f.ensures.does 0 []) c.requires.fit define_paid c.in-Got.d c.in-Got.x c.in-Got.is
 
--- src/expected.rt:62:9
 pub returns-in_default-g : goal.returns-in_default-g
 returns-in_default-g c = definition_map_out c.define_head-f.ensures c.in-Got.d c.in-Got.x c.in-Got.is c.map-g.ensures c.in_default-g.not-Got
 
--- src/expected.rt:64:5
 pub close-requires-clause-spans : goal.close-requires-clause-spans
-close-requires-clause-spans c = let d = does_then (c.define_head-f.ensures.does _ []) c.in-Got.d c.in-Got.x c.in-Got.is (c.map-g.ensures.does []) in let ef = fit_then d c.requires.fit definition_paid c.in-Got-g.e c.in-Got-g.y c.in-Got-g.is in let eg = grown_then d c.requires.fit definition_paid c.in-Got-g.e c.in-Got-g.y c.in-Got-g.is in spans c.requires.skips ef eg
+close-requires-clause-spans c =
+    let d = does_then (c.define_head-f.ensures.does _ []) c.in-Got.d c.in-Got.x c.in-Got.is (c.map-g.ensures.does []) in
+    let ef = fit_then d c.requires.fit definition_paid c.in-Got-g.e c.in-Got-g.y c.in-Got-g.is in let eg = grown_then d c.requires.fit definition_paid
+    c.in-Got-g.e c.in-Got-g.y c.in-Got-g.is in spans c.requires.skips ef eg
 
--- src/expected.rt:51:1
 pub returns : goal.returns
-returns c = let d = does_then (c.define_head-f.ensures.does _ []) c.in-Got.d c.in-Got.x c.in-Got.is (c.map-g.ensures.does []) in let ef = fit_then d c.requires.fit definition_paid c.in-Got-g.e c.in-Got-g.y c.in-Got-g.is in let eg = grown_then d c.requires.fit definition_paid c.in-Got-g.e c.in-Got-g.y c.in-Got-g.is in definition_got c.define_head-f.ensures c.in-Got.d c.in-Got.x c.in-Got.is c.map-g.ensures c.requires.skips c.in-Got-g.e c.in-Got-g.y c.in-Got-g.is eg c.close.ensures
+returns c =
+    let d = does_then (c.define_head-f.ensures.does _ []) c.in-Got.d c.in-Got.x c.in-Got.is (c.map-g.ensures.does []) in
+    let ef = fit_then d c.requires.fit definition_paid c.in-Got-g.e c.in-Got-g.y c.in-Got-g.is in let eg = grown_then d c.requires.fit definition_paid
+    c.in-Got-g.e c.in-Got-g.y c.in-Got-g.is in definition_got c.define_head-f.ensures c.in-Got.d c.in-Got.x c.in-Got.is c.map-g.ensures
+    c.requires.skips c.in-Got-g.e c.in-Got-g.y c.in-Got-g.is eg c.close.ensures

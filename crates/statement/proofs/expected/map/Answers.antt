@@ -14,18 +14,17 @@ use Rattle.operand.proofs.config_map.config_map.Reads as config-map-reads
 use Rattle.statement.proofs.lift.lifted.Reads as lifted-reads
 use Rattle.statement.proofs.expected.map.Goals as goal
 
--- src/expected.rt:36:9
 pub lifted-r-requires : goal.lifted-r-requires
 lifted-r-requires c = fit_lifts c.requires
 
--- src/expected.rt:38:9
 pub returns-in_default : goal.returns-in_default
 returns-in_default c = tells_expect (lift head_quiet.6 c.requires.within c.lifted-r.ensures c.config_map-f.ensures) 4 c.in_default.not-Miss
 
--- src/expected.rt:40:9
 pub report-y-requires : goal.report-y-requires
-report-y-requires c = let f = fit_next ((lift head_quiet.6 c.requires.within c.lifted-r.ensures c.config_map-f.ensures).does []) c.requires missing_sober.0 c.in-Miss.x c.in-Miss.is in let k = fit_errors f in omega (arith, c.requires.small, c.requires.within, k)
+report-y-requires c =
+    let f = fit_next ((lift head_quiet.6 c.requires.within c.lifted-r.ensures c.config_map-f.ensures).does []) c.requires missing_sober.0 c.in-Miss.x
+    c.in-Miss.is in
+    let k = fit_errors f in omega (arith, c.requires.small, c.requires.within, k)
 
--- src/expected.rt:20:1
 pub returns : goal.returns
 returns c = tells_missing (lift head_quiet.6 c.requires.within c.lifted-r.ensures c.config_map-f.ensures) 4 c.in-Miss.x c.in-Miss.is c.report-y.ensures

@@ -14,18 +14,18 @@ use Rattle.head.proofs.directive.expression_arg_list.Reads as expression-arg-lis
 use Rattle.statement.proofs.lift.lifted.Reads as lifted-reads
 use Rattle.statement.proofs.expected.values.Goals as goal
 
--- src/expected.rt:85:9
 pub lifted-r-requires : goal.lifted-r-requires
 lifted-r-requires c = fit_lifts c.requires.fit
 
--- src/expected.rt:87:9
 pub returns-in_default : goal.returns-in_default
 returns-in_default c = tells_expect (lift head_quiet.7 c.requires.fit.within c.lifted-r.ensures c.expression_arg_list-f.ensures) 3 c.in_default.not-Miss
 
--- src/expected.rt:89:9
 pub report-y-requires : goal.report-y-requires
-report-y-requires c = let f = fit_next ((lift head_quiet.7 c.requires.fit.within c.lifted-r.ensures c.expression_arg_list-f.ensures).does []) c.requires.fit missing_sober.1 c.in-Miss.x c.in-Miss.is in let k = fit_errors f in omega (arith, c.requires.fit.small, c.requires.fit.within, k)
+report-y-requires c =
+    let f = fit_next ((lift head_quiet.7 c.requires.fit.within c.lifted-r.ensures c.expression_arg_list-f.ensures).does []) c.requires.fit
+    missing_sober.1 c.in-Miss.x c.in-Miss.is in
+    let k = fit_errors f in omega (arith, c.requires.fit.small, c.requires.fit.within, k)
 
--- src/expected.rt:68:1
 pub returns : goal.returns
-returns c = tells_missing (lift head_quiet.7 c.requires.fit.within c.lifted-r.ensures c.expression_arg_list-f.ensures) 3 c.in-Miss.x c.in-Miss.is c.report-y.ensures
+returns c =
+    tells_missing (lift head_quiet.7 c.requires.fit.within c.lifted-r.ensures c.expression_arg_list-f.ensures) 3 c.in-Miss.x c.in-Miss.is c.report-y.ensures

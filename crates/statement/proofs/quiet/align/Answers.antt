@@ -7,10 +7,8 @@ use Rattle.head.proofs.directive.align.Reads as align-reads
 use Rattle.statement.proofs.lift.lifted.Reads as lifted-reads
 use Rattle.statement.proofs.quiet.align.Goals as goal
 
--- src/quiet.rt:140:5
 pub lifted-requires : goal.lifted-requires
 lifted-requires c = fit_lifts c.requires.fit
 
--- src/quiet.rt:122:1
 pub returns : goal.returns
 returns c = lift statement_quiet.5 c.requires.fit.within c.lifted.ensures c.align-f.ensures

@@ -7,10 +7,8 @@ use Rattle.head.proofs.directive.assert.Reads as assert-reads
 use Rattle.statement.proofs.lift.lifted.Reads as lifted-reads
 use Rattle.statement.proofs.quiet.assert.Goals as goal
 
--- src/quiet.rt:202:5
 pub lifted-requires : goal.lifted-requires
 lifted-requires c = fit_lifts c.requires.fit
 
--- src/quiet.rt:184:1
 pub returns : goal.returns
 returns c = lift statement_quiet.8 c.requires.fit.within c.lifted.ensures c.assert-f.ensures

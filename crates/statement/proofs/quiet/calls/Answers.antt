@@ -10,14 +10,11 @@ use Rattle.statement.proofs.expected.data.Reads as data_Reads
 use Rattle.statement.proofs.quiet.invoke.Reads as invoke-reads
 use Rattle.statement.proofs.quiet.calls.Goals as goal
 
--- src/quiet.rt:258:9
 pub returns-in_default : goal.returns-in_default
-returns-in_default c = (tells_first c.invoke-r.ensures c.in_default.not-Miss)
+returns-in_default c = tells_first c.invoke-r.ensures c.in_default.not-Miss
 
--- src/quiet.rt:260:5
 pub data-requires-clause-fit : goal.data-requires-clause-fit
 data-requires-clause-fit c = let h1 = fit_next (c.invoke-r.ensures.does []) c.requires.fit quiet_sober.4 c.in-Miss.st c.in-Miss.is in h1
 
--- src/quiet.rt:251:1
 pub returns : goal.returns
-returns c = (tells_next c.invoke-r.ensures c.in-Miss.st c.in-Miss.is c.before.before.before.before.«data».ensures)
+returns c = tells_next c.invoke-r.ensures c.in-Miss.st c.in-Miss.is c.before.before.before.before.«data».ensures

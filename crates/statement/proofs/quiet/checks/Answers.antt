@@ -10,14 +10,11 @@ use Rattle.statement.proofs.quiet.assert.Reads as assert-reads
 use Rattle.statement.proofs.quiet.trace.Reads as trace-reads
 use Rattle.statement.proofs.quiet.checks.Goals as goal
 
--- src/quiet.rt:282:9
 pub returns-in_default : goal.returns-in_default
-returns-in_default c = (tells_first c.assert-r.ensures c.in_default.not-Miss)
+returns-in_default c = tells_first c.assert-r.ensures c.in_default.not-Miss
 
--- src/quiet.rt:284:5
 pub trace-requires-clause-fit : goal.trace-requires-clause-fit
 trace-requires-clause-fit c = let h1 = fit_next (c.assert-r.ensures.does []) c.requires.fit quiet_sober.6 c.in-Miss.st c.in-Miss.is in h1
 
--- src/quiet.rt:275:1
 pub returns : goal.returns
-returns c = (tells_next c.assert-r.ensures c.in-Miss.st c.in-Miss.is c.trace.ensures)
+returns c = tells_next c.assert-r.ensures c.in-Miss.st c.in-Miss.is c.trace.ensures

@@ -7,10 +7,8 @@ use Rattle.head.proofs.definition.const_definition.Reads as const-definition-rea
 use Rattle.statement.proofs.lift.lifted.Reads as lifted-reads
 use Rattle.statement.proofs.quiet.constant.Goals as goal
 
--- src/quiet.rt:77:5
 pub lifted-requires : goal.lifted-requires
 lifted-requires c = fit_lifts c.requires.fit
 
--- src/quiet.rt:59:1
 pub returns : goal.returns
 returns c = lift statement_quiet.2 c.requires.fit.within c.lifted.ensures c.const_definition-f.ensures

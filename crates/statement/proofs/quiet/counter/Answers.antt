@@ -7,10 +7,8 @@ use Rattle.head.proofs.definition.pc_definition.Reads as pc-definition-reads
 use Rattle.statement.proofs.lift.lifted.Reads as lifted-reads
 use Rattle.statement.proofs.quiet.counter.Goals as goal
 
--- src/quiet.rt:98:5
 pub lifted-requires : goal.lifted-requires
 lifted-requires c = fit_lifts c.requires.fit
 
--- src/quiet.rt:80:1
 pub returns : goal.returns
 returns c = lift statement_quiet.3 c.requires.fit.within c.lifted.ensures c.pc_definition-f.ensures

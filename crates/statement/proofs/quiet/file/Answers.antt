@@ -7,10 +7,8 @@ use Rattle.head.proofs.directive.file.Reads as file-reads
 use Rattle.statement.proofs.lift.lifted.Reads as lifted-reads
 use Rattle.statement.proofs.quiet.file.Goals as goal
 
--- src/quiet.rt:181:5
 pub lifted-requires : goal.lifted-requires
 lifted-requires c = fit_lifts c.requires.fit
 
--- src/quiet.rt:164:1
 pub returns : goal.returns
 returns c = lift_flat statement_quiet.7 c.requires.fit.within c.lifted.ensures c.file-f.ensures.reads

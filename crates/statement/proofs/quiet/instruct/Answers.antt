@@ -7,10 +7,8 @@ use Rattle.head.proofs.instruction.instruction.Reads as instruction-reads
 use Rattle.statement.proofs.lift.lifted.Reads as lifted-reads
 use Rattle.statement.proofs.quiet.instruct.Goals as goal
 
--- src/quiet.rt:35:5
 pub lifted-requires : goal.lifted-requires
 lifted-requires c = fit_lifts c.requires.fit
 
--- src/quiet.rt:17:1
 pub returns : goal.returns
 returns c = lift statement_quiet.0 c.requires.fit.within c.lifted.ensures c.instruction-f.ensures

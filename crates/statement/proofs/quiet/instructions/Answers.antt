@@ -14,38 +14,46 @@ use Rattle.statement.proofs.quiet.instruct.Reads as instruct-reads
 use Rattle.statement.proofs.quiet.variable.Reads as variable-reads
 use Rattle.statement.proofs.quiet.instructions.Goals as goal
 
--- src/quiet.rt:234:9
 pub returns-in_default : goal.returns-in_default
-returns-in_default c = (tells_first c.instruct-r.ensures c.in_default.not-Miss)
+returns-in_default c = tells_first c.instruct-r.ensures c.in_default.not-Miss
 
--- src/quiet.rt:236:9
 pub variable-r-requires-clause-fit : goal.variable-r-requires-clause-fit
 variable-r-requires-clause-fit c = let h1 = fit_next (c.instruct-r.ensures.does []) c.requires.fit quiet_sober.0 c.in-Miss.st c.in-Miss.is in h1
 
--- src/quiet.rt:238:9
 pub returns-in_default-r : goal.returns-in_default-r
-returns-in_default-r c = (tells_next c.instruct-r.ensures c.in-Miss.st c.in-Miss.is (tells_first c.variable-r.ensures c.in_default-r.not-Miss))
+returns-in_default-r c = tells_next c.instruct-r.ensures c.in-Miss.st c.in-Miss.is (tells_first c.variable-r.ensures c.in_default-r.not-Miss)
 
--- src/quiet.rt:240:9
 pub constant-r-requires-clause-fit : goal.constant-r-requires-clause-fit
-constant-r-requires-clause-fit c = let h1 = fit_next (c.instruct-r.ensures.does []) c.requires.fit quiet_sober.0 c.in-Miss.st c.in-Miss.is in let h2 = fit_next (c.variable-r.ensures.does []) h1 quiet_sober.1 c.in-Miss-r.st c.in-Miss-r.is in h2
+constant-r-requires-clause-fit c =
+    let h1 = fit_next (c.instruct-r.ensures.does []) c.requires.fit quiet_sober.0 c.in-Miss.st c.in-Miss.is in
+    let h2 = fit_next (c.variable-r.ensures.does []) h1 quiet_sober.1 c.in-Miss-r.st c.in-Miss-r.is in h2
 
--- src/quiet.rt:242:9
 pub returns-in_default-r-2 : goal.returns-in_default-r-2
-returns-in_default-r-2 c = (tells_next c.instruct-r.ensures c.in-Miss.st c.in-Miss.is (tells_next c.variable-r.ensures c.in-Miss-r.st c.in-Miss-r.is (tells_first c.constant-r.ensures c.in_default-r-2.not-Miss)))
+returns-in_default-r-2 c =
+    tells_next c.instruct-r.ensures c.in-Miss.st c.in-Miss.is
+    (tells_next c.variable-r.ensures c.in-Miss-r.st c.in-Miss-r.is (tells_first c.constant-r.ensures c.in_default-r-2.not-Miss))
 
--- src/quiet.rt:244:9
 pub counter-r-requires-clause-fit : goal.counter-r-requires-clause-fit
-counter-r-requires-clause-fit c = let h1 = fit_next (c.instruct-r.ensures.does []) c.requires.fit quiet_sober.0 c.in-Miss.st c.in-Miss.is in let h2 = fit_next (c.variable-r.ensures.does []) h1 quiet_sober.1 c.in-Miss-r.st c.in-Miss-r.is in let h3 = fit_next (c.constant-r.ensures.does []) h2 quiet_sober.2 c.in-Miss-r-2.st c.in-Miss-r-2.is in h3
+counter-r-requires-clause-fit c =
+    let h1 = fit_next (c.instruct-r.ensures.does []) c.requires.fit quiet_sober.0 c.in-Miss.st c.in-Miss.is in
+    let h2 = fit_next (c.variable-r.ensures.does []) h1 quiet_sober.1 c.in-Miss-r.st c.in-Miss-r.is in let h3 = fit_next
+    (c.constant-r.ensures.does []) h2 quiet_sober.2 c.in-Miss-r-2.st c.in-Miss-r-2.is in h3
 
--- src/quiet.rt:246:9
 pub returns-in_default-r-3 : goal.returns-in_default-r-3
-returns-in_default-r-3 c = (tells_next c.instruct-r.ensures c.in-Miss.st c.in-Miss.is (tells_next c.variable-r.ensures c.in-Miss-r.st c.in-Miss-r.is (tells_next c.constant-r.ensures c.in-Miss-r-2.st c.in-Miss-r-2.is (tells_first c.counter-r.ensures c.in_default-r-3.not-Miss))))
+returns-in_default-r-3 c =
+    tells_next c.instruct-r.ensures c.in-Miss.st c.in-Miss.is
+    (tells_next c.variable-r.ensures c.in-Miss-r.st c.in-Miss-r.is
+    (tells_next c.constant-r.ensures c.in-Miss-r-2.st c.in-Miss-r-2.is (tells_first c.counter-r.ensures c.in_default-r-3.not-Miss)))
 
--- src/quiet.rt:248:5
 pub definition-requires-clause-fit : goal.definition-requires-clause-fit
-definition-requires-clause-fit c = let h1 = fit_next (c.instruct-r.ensures.does []) c.requires.fit quiet_sober.0 c.in-Miss.st c.in-Miss.is in let h2 = fit_next (c.variable-r.ensures.does []) h1 quiet_sober.1 c.in-Miss-r.st c.in-Miss-r.is in let h3 = fit_next (c.constant-r.ensures.does []) h2 quiet_sober.2 c.in-Miss-r-2.st c.in-Miss-r-2.is in let h4 = fit_next (c.counter-r.ensures.does []) h3 quiet_sober.3 c.in-Miss-r-3.st c.in-Miss-r-3.is in h4
+definition-requires-clause-fit c =
+    let h1 = fit_next (c.instruct-r.ensures.does []) c.requires.fit quiet_sober.0 c.in-Miss.st c.in-Miss.is in
+    let h2 = fit_next (c.variable-r.ensures.does []) h1 quiet_sober.1 c.in-Miss-r.st c.in-Miss-r.is in let h3 = fit_next
+    (c.constant-r.ensures.does []) h2 quiet_sober.2 c.in-Miss-r-2.st c.in-Miss-r-2.is in let h4 = fit_next (c.counter-r.ensures.does []) h3
+    quiet_sober.3 c.in-Miss-r-3.st c.in-Miss-r-3.is in h4
 
--- src/quiet.rt:227:1
 pub returns : goal.returns
-returns c = (tells_next c.instruct-r.ensures c.in-Miss.st c.in-Miss.is (tells_next c.variable-r.ensures c.in-Miss-r.st c.in-Miss-r.is (tells_next c.constant-r.ensures c.in-Miss-r-2.st c.in-Miss-r-2.is (tells_next c.counter-r.ensures c.in-Miss-r-3.st c.in-Miss-r-3.is c.definition.ensures))))
+returns c =
+    tells_next c.instruct-r.ensures c.in-Miss.st c.in-Miss.is
+    (tells_next c.variable-r.ensures c.in-Miss-r.st c.in-Miss-r.is
+    (tells_next c.constant-r.ensures c.in-Miss-r-2.st c.in-Miss-r-2.is (tells_next c.counter-r.ensures c.in-Miss-r-3.st c.in-Miss-r-3.is c.definition.ensures)))

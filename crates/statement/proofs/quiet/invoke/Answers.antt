@@ -7,10 +7,8 @@ use Rattle.head.proofs.definition.macro_invocation.Reads as macro-invocation-rea
 use Rattle.statement.proofs.lift.lifted.Reads as lifted-reads
 use Rattle.statement.proofs.quiet.invoke.Goals as goal
 
--- src/quiet.rt:119:5
 pub lifted-requires : goal.lifted-requires
 lifted-requires c = fit_lifts c.requires.fit
 
--- src/quiet.rt:101:1
 pub returns : goal.returns
 returns c = lift statement_quiet.4 c.requires.fit.within c.lifted.ensures c.macro_invocation-f.ensures

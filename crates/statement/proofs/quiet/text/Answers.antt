@@ -7,10 +7,8 @@ use Rattle.head.proofs.directive.text.Reads as text-reads
 use Rattle.statement.proofs.lift.lifted.Reads as lifted-reads
 use Rattle.statement.proofs.quiet.text.Goals as goal
 
--- src/quiet.rt:161:5
 pub lifted-requires : goal.lifted-requires
 lifted-requires c = fit_lifts c.requires.fit
 
--- src/quiet.rt:143:1
 pub returns : goal.returns
 returns c = lift statement_quiet.6 c.requires.fit.within c.lifted.ensures c.text-f.ensures

@@ -10,14 +10,11 @@ use Rattle.statement.proofs.quiet.file.Reads as file-reads
 use Rattle.statement.proofs.quiet.text.Reads as text-reads
 use Rattle.statement.proofs.quiet.texts.Goals as goal
 
--- src/quiet.rt:270:9
 pub returns-in_default : goal.returns-in_default
-returns-in_default c = (tells_first c.text-r.ensures c.in_default.not-Miss)
+returns-in_default c = tells_first c.text-r.ensures c.in_default.not-Miss
 
--- src/quiet.rt:272:5
 pub file-requires-clause-fit : goal.file-requires-clause-fit
 file-requires-clause-fit c = let h1 = fit_next (c.text-r.ensures.does []) c.requires.fit quiet_sober.5 c.in-Miss.st c.in-Miss.is in h1
 
--- src/quiet.rt:263:1
 pub returns : goal.returns
-returns c = (tells_next c.text-r.ensures c.in-Miss.st c.in-Miss.is (leaf_tells c.file.ensures))
+returns c = tells_next c.text-r.ensures c.in-Miss.st c.in-Miss.is (leaf_tells c.file.ensures)

@@ -7,10 +7,8 @@ use Rattle.head.proofs.directive.trace.Reads as trace-reads
 use Rattle.statement.proofs.lift.lifted.Reads as lifted-reads
 use Rattle.statement.proofs.quiet.trace.Goals as goal
 
--- src/quiet.rt:223:5
 pub lifted-requires : goal.lifted-requires
 lifted-requires c = fit_lifts c.requires.fit
 
--- src/quiet.rt:205:1
 pub returns : goal.returns
 returns c = lift statement_quiet.9 c.requires.fit.within c.lifted.ensures c.trace-f.ensures

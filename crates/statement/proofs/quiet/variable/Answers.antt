@@ -7,10 +7,8 @@ use Rattle.head.proofs.definition.variable_definition.Reads as variable-definiti
 use Rattle.statement.proofs.lift.lifted.Reads as lifted-reads
 use Rattle.statement.proofs.quiet.variable.Goals as goal
 
--- src/quiet.rt:56:5
 pub lifted-requires : goal.lifted-requires
 lifted-requires c = fit_lifts c.requires.fit
 
--- src/quiet.rt:38:1
 pub returns : goal.returns
 returns c = lift statement_quiet.1 c.requires.fit.within c.lifted.ensures c.variable_definition-f.ensures

@@ -7,10 +7,8 @@ use Rattle.head.proofs.directive.data_head.Reads as data-head-reads
 use Rattle.statement.proofs.lift.lifted.Reads as lifted-reads
 use Rattle.statement.proofs.start.data_head.Goals as goal
 
--- src/start.rt:96:5
 pub lifted-requires : goal.lifted-requires
 lifted-requires c = fit_lifts c.requires.fit
 
--- src/start.rt:79:1
 pub returns : goal.returns
 returns c = lift_flat head_quiet.3 c.requires.fit.within c.lifted.ensures c.data_head-f.ensures.reads

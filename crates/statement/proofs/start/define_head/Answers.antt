@@ -7,10 +7,8 @@ use Rattle.head.proofs.definition.define_head.Reads as define-head-reads
 use Rattle.statement.proofs.lift.lifted.Reads as lifted-reads
 use Rattle.statement.proofs.start.define_head.Goals as goal
 
--- src/start.rt:56:5
 pub lifted-requires : goal.lifted-requires
 lifted-requires c = fit_lifts c.requires.fit
 
--- src/start.rt:39:1
 pub returns : goal.returns
 returns c = lift_flat head_quiet.1 c.requires.fit.within c.lifted.ensures c.define_head-f.ensures.reads

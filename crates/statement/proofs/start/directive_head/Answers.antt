@@ -7,10 +7,8 @@ use Rattle.head.proofs.directive.directive_expression.Reads as directive-express
 use Rattle.statement.proofs.lift.lifted.Reads as lifted-reads
 use Rattle.statement.proofs.start.directive_head.Goals as goal
 
--- src/start.rt:119:5
 pub lifted-requires : goal.lifted-requires
 lifted-requires c = fit_lifts c.requires.fit
 
--- src/start.rt:100:1
 pub returns : goal.returns
 returns c = lift (directive_quiet _) c.requires.fit.within c.lifted.ensures c.directive_expression-f.ensures

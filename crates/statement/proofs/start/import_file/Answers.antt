@@ -7,10 +7,8 @@ use Rattle.head.proofs.import.import_file.Reads as import-file-reads
 use Rattle.statement.proofs.lift.lifted.Reads as lifted-reads
 use Rattle.statement.proofs.start.import_file.Goals as goal
 
--- src/start.rt:199:5
 pub lifted-requires : goal.lifted-requires
 lifted-requires c = fit_lifts c.requires
 
--- src/start.rt:184:1
 pub returns : goal.returns
 returns c = lift_flat head_quiet.5 c.requires.within c.lifted.ensures c.import_file-f.ensures.reads

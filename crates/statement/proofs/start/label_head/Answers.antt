@@ -7,10 +7,8 @@ use Rattle.head.proofs.definition.label_head.Reads as label-head-reads
 use Rattle.statement.proofs.lift.lifted.Reads as lifted-reads
 use Rattle.statement.proofs.start.label_head.Goals as goal
 
--- src/start.rt:36:5
 pub lifted-requires : goal.lifted-requires
 lifted-requires c = fit_lifts c.requires.fit
 
--- src/start.rt:19:1
 pub returns : goal.returns
 returns c = lift_flat head_quiet.0 c.requires.fit.within c.lifted.ensures c.label_head-f.ensures.reads

@@ -7,10 +7,8 @@ use Rattle.head.proofs.definition.macro_head.Reads as macro-head-reads
 use Rattle.statement.proofs.lift.lifted.Reads as lifted-reads
 use Rattle.statement.proofs.start.macro_head.Goals as goal
 
--- src/start.rt:76:5
 pub lifted-requires : goal.lifted-requires
 lifted-requires c = fit_lifts c.requires.fit
 
--- src/start.rt:59:1
 pub returns : goal.returns
 returns c = lift_flat head_quiet.2 c.requires.fit.within c.lifted.ensures c.macro_head-f.ensures.reads

@@ -73,7 +73,10 @@ abbrev pub decreases-third : goal.decreases-third
 decreases-third l = l.left * 64 + 8
 
 abbrev pub invariant-items-loop-d : goal.invariant-items-loop-d
-invariant-items-loop-d l = Walking block_item l.s l.left l.initial.at l.initial.count l.initial.state (tables l.initial.rows l.initial.errors l.initial.requests) l.at l.count l.state (tables l.rows l.errors l.requests) × (1 ≤ l.at)
+invariant-items-loop-d l =
+    Walking block_item l.s l.left l.initial.at l.initial.count l.initial.state (tables l.initial.rows l.initial.errors l.initial.requests) l.at
+    l.count l.state (tables l.rows l.errors l.requests)
+    × (1 ≤ l.at)
 
 abbrev pub decreases-items-loop-d : goal.decreases-items-loop-d
 decreases-items-loop-d l = length l.s - l.at

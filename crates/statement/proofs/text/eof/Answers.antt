@@ -8,10 +8,8 @@ use Rattle.statement.proofs.lift.lifted.Reads as lifted-reads
 use Rattle.trivia.proofs.multiline_trivia.Reads as multiline-trivia-reads
 use Rattle.statement.proofs.text.eof.Goals as goal
 
--- src/text.rt:80:5
 pub lifted-requires : goal.lifted-requires
 lifted-requires c = fit_lifts c.requires
 
--- src/text.rt:61:1
 pub returns : goal.returns
 returns c = eof_tells c.requires c.multiline_trivia-k.ensures c.lifted.ensures c.row-f.ensures

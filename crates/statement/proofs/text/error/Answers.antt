@@ -5,6 +5,5 @@ use Rattle.statement.proofs.text.error.Lts as lts
 use Rattle.statement.proofs.text.error_text.Reads as error-text-reads
 use Rattle.statement.proofs.text.error.Goals as goal
 
--- src/text.rt:46:1
 pub returns : goal.returns
 returns c = error_is c.error_text.ensures

@@ -5,6 +5,5 @@ use Rattle.statement.proofs.text.error_in_block.Lts as lts
 use Rattle.statement.proofs.text.error_text.Reads as error-text-reads
 use Rattle.statement.proofs.text.error_in_block.Goals as goal
 
--- src/text.rt:53:1
 pub returns : goal.returns
 returns c = error_in_is c.error_text.ensures

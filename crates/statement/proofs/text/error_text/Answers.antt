@@ -12,18 +12,21 @@ use Rattle.statement.proofs.lift.lifted.Reads as lifted-reads
 use Rattle.trivia.proofs.multiline_trivia.Reads as multiline-trivia-reads
 use Rattle.statement.proofs.text.error_text.Goals as goal
 
--- src/text.rt:36:9
 pub lifted-r-requires : goal.lifted-r-requires
 lifted-r-requires c = fit_lifts c.requires.fit
 
--- src/text.rt:38:9
 pub returns-in_default : goal.returns-in_default
-returns-in_default c = error_out c.args.class c.requires.fit (text_tells c.requires.fit c.multiline_trivia-k.ensures c.lifted-r.ensures c.args.class c.run-f.ensures) c.in_default.not-Got
+returns-in_default c =
+    error_out c.args.class c.requires.fit (text_tells c.requires.fit c.multiline_trivia-k.ensures c.lifted-r.ensures c.args.class c.run-f.ensures)
+    c.in_default.not-Got
 
--- src/text.rt:42:9
 pub report-y-requires : goal.report-y-requires
-report-y-requires c = let f = error_fit c.args.class c.requires.fit (text_tells c.requires.fit c.multiline_trivia-k.ensures c.lifted-r.ensures c.args.class c.run-f.ensures) c.in-Got.d c.in-Got.x c.in-Got.is in let e = fit_errors f in omega (arith, c.requires.fit.small, c.multiline_trivia-k.ensures.within, f.within, e)
+report-y-requires c =
+    let f = error_fit c.args.class c.requires.fit
+    (text_tells c.requires.fit c.multiline_trivia-k.ensures c.lifted-r.ensures c.args.class c.run-f.ensures) c.in-Got.d c.in-Got.x c.in-Got.is in
+    let e = fit_errors f in omega (arith, c.requires.fit.small, c.multiline_trivia-k.ensures.within, f.within, e)
 
--- src/text.rt:16:1
 pub returns : goal.returns
-returns c = error_got c.args.class c.requires.fit (text_tells c.requires.fit c.multiline_trivia-k.ensures c.lifted-r.ensures c.args.class c.run-f.ensures) c.multiline_trivia-k.ensures c.in-Got.d c.in-Got.x c.in-Got.is c.report-y.ensures
+returns c =
+    error_got c.args.class c.requires.fit (text_tells c.requires.fit c.multiline_trivia-k.ensures c.lifted-r.ensures c.args.class c.run-f.ensures)
+    c.multiline_trivia-k.ensures c.in-Got.d c.in-Got.x c.in-Got.is c.report-y.ensures
