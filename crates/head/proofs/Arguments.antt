@@ -2,15 +2,15 @@
 use mathlib.Core.Path.{◌≡◌, refl, ap, sym, subst, ◌∙◌}
 use mathlib.Core.Bool.{false}
 use mathlib.Core.List.{List, [], ◌∷◌, ◌++◌}
-use Prim.Native.Nat.{ℕ, ◌+◌, ◌≤◌}
+use Prim.Native.Nat.{ℕ, ◌≤◌}
 use native.Mathlib.Omega.{arith}
 use lib.Dec.{T, ltb}
-use lib.ListN.{length, drop, length-drop}
+use lib.ListN.{length, length-drop}
 use Rattle.reading.specs.Grammar.{Rows, Input, expr, Parser, ◌▸◌, many0, rule, argument, joined, placed}
 use Rattle.reading.specs.Rules.{char, trivia, arg_list, expression, expression_arg, expression_arg_list, all_rules}
-use Rattle.reading.specs.Summary.{Summary, fits, fails, more, thenˢ, withˢ, gateˢ, last_roundˢ, next_roundˢ, Scan, roundsˢ, scan}
+use Rattle.reading.specs.Summary.{Summary, fits, fails, more, thenˢ, withˢ, gateˢ, last_roundˢ, next_roundˢ, roundsˢ, scan}
 use Rattle.reading.proofs.Ahead.{Ahead}
-use Rattle.reading.proofs.Summaries.{Holds, Yields, scan_on}
+use Rattle.reading.proofs.Summaries.{Yields, scan_on}
 use Rattle.reading.proofs.Tests.{quiet}
 use Rattle.cursor.specs.Agree.{full, Reads}
 use Rattle.cursor.specs.Text.{here}

@@ -2,10 +2,9 @@
 use mathlib.Core.Path.{◌≡◌}
 use mathlib.Core.Bool.{Bool}
 use mathlib.Core.List.{List}
-use Prim.Native.Nat.{ℕ, ◌+◌, ◌*◌, ◌^◌, ◌≤◌, ◌<◌}
+use Prim.Native.Nat.{ℕ, ◌+◌, ◌≤◌}
 use native.Mathlib.Omega.{arith}
 use lib.Dec.{T, leb, leb→le, le→leb}
-use lib.ListN.{length}
 use Rattle.reading.specs.Grammar.{Parser}
 use Rattle.reading.proofs.Cost.{cost, slim}
 use Rattle.reading.proofs.Tests.{quiet}
@@ -16,7 +15,7 @@ use Rattle.cursor.specs.declared.Skip.{Skip}
 use Rattle.cursor.specs.declared.Read.{Read}
 use Rattle.cursor.specs.declared.Read.TheVariants.{Got}
 use Rattle.cursor.proofs.Laws.{moved, Solid, stepped}
-use Rattle.head.specs.Parts.{Spans, Closable}
+use Rattle.head.specs.Parts.{Closable}
 
 -- a parser that pays for its rows but for n of them, and may have none
 pub record Owing (n : ℕ) (g : Parser) : Type 0 where

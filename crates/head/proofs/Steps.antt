@@ -1,10 +1,8 @@
 -- Laws for readers that go on with a callee's answer: one part behind another, or one attempt after another.
 use mathlib.Core.Path.{◌≡◌, refl, ap, sym, subst, ◌∙◌}
 use mathlib.Core.Bool.{Bool, true, false, ◌||◌}
-use mathlib.Core.List.{List, [], ◌∷◌}
+use mathlib.Core.List.{List}
 use Prim.Native.Nat.{ℕ, ◌+◌}
-use types.Run.{OneOf}
-use denote.Enum.Declared.{tag_of}
 use lib.Dec.{T}
 use Rattle.reading.specs.Grammar.{Parser, ◌▸◌, ◌or◌, never}
 use Rattle.reading.specs.Rules.{opt}
@@ -16,9 +14,8 @@ use Rattle.cursor.specs.declared.Cursor.{Cursor}
 use Rattle.cursor.specs.declared.Skip.{Skip}
 use Rattle.cursor.specs.declared.Read.{Read}
 use Rattle.cursor.specs.declared.Read.TheVariants.{Got, Miss, Deep}
-use Rattle.cursor.proofs.Agree.{got_miss, miss_deep, not_got, not_miss, lost}
+use Rattle.cursor.proofs.Agree.{got_miss, miss_deep, lost}
 use Rattle.cursor.proofs.Laws.{reads_leaf, seq_out, seq_got, or_miss, or_first, opt_miss, opt_first, never_got, never_miss, never_deep}
-use Rattle.cursor.specs.contracts.Read.{the_type}
 use Rattle.head.specs.Parts.{Flat, optional, tried}
 
 -- Answers ------------------------------------------------------------------

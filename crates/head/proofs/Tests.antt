@@ -5,15 +5,15 @@ use Prim.Native.Nat.{ℕ, ◌+◌, ◌*◌, ◌≤◌}
 use native.Mathlib.Omega.{arith}
 use lib.Dec.{T, le→leb}
 use lib.ListN.{length}
-use Rattle.reading.specs.Grammar.{Parser, ◌▸◌, never, pick}
+use Rattle.reading.specs.Grammar.{◌▸◌, never, pick}
 use Rattle.reading.specs.Kind.{wordᵏ, mnemonicᵏ}
 use Rattle.reading.specs.Rules.{opt, word, ws, multiline_trivia, name, expression, operand, call_parens, identifier_arg_list, expression_arg_list, encoding, all_rules}
-use Rattle.reading.specs.Rules.{interpolated_string, as', specific_arg, import_args, path}
+use Rattle.reading.specs.Rules.{as', specific_arg, import_args, path}
 use Rattle.reading.proofs.Tests.{quiet}
 use Rattle.cursor.proofs.Laws.{Solid}
 use Rattle.literal.specs.Parts.{string_of}
 use Rattle.word.specs.Words.{mnemonic_list}
-use Rattle.head.specs.Heads.{char_of, word_of, assigned, named, parameters, encoded, asserted, traced, as_path}
+use Rattle.head.specs.Heads.{char_of, word_of, assigned, named, encoded, asserted, traced}
 use Rattle.head.proofs.Bounds.{Owing}
 
 -- Leaves ---------------------------------------------------------------------

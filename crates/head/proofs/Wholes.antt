@@ -1,10 +1,8 @@
 -- The row around all that was read: over and node, from the answers of their parts.
 use mathlib.Core.Path.{◌≡◌, refl, ap, sym, subst, ◌∙◌}
-use mathlib.Core.List.{List, [], ◌∷◌}
+use mathlib.Core.List.{List}
 use Prim.Native.Nat.{ℕ, ◌+◌, ◌-◌}
 use native.Mathlib.Omega.{arith}
-use types.Run.{OneOf}
-use denote.Enum.Declared.{tag_of}
 use lib.Dec.{T}
 use Rattle.reading.specs.Grammar.{Parser, over, always, node}
 use Rattle.reading.specs.Summary.{scan}
@@ -18,10 +16,9 @@ use Rattle.cursor.specs.declared.Cursor.{Cursor}
 use Rattle.cursor.specs.declared.Skip.{Skip}
 use Rattle.cursor.specs.declared.Read.{Read}
 use Rattle.cursor.specs.declared.Read.TheVariants.{Got, Miss, Deep}
-use Rattle.cursor.proofs.Agree.{got_deep, got_miss, not_got}
+use Rattle.cursor.proofs.Agree.{got_deep, got_miss}
 use Rattle.cursor.proofs.Laws.{node_out, node_got, over_out, over_no, over_got}
 use Rattle.cursor.proofs.Lows.{First}
-use Rattle.cursor.specs.contracts.Read.{the_type}
 use Rattle.head.specs.Parts.{whole_rows, whole_answer, Whole, Closable}
 use Rattle.head.proofs.Steps.{reads_as}
 

@@ -5,7 +5,7 @@ use Rattle.reading.specs.Grammar.{one, tag_no_case, Parser, ◌▸◌, ◌or◌,
 use Rattle.reading.specs.Kind.{instructionᵏ, variable_definitionᵏ, charᵏ, wordᵏ, mnemonicᵏ, data_sizeᵏ, variable_typeᵏ}
 use Rattle.reading.specs.Mnemonic.{mnemonics, implied_mnemonics}
 use Rattle.reading.specs.Rules.{opt, word, ws, mws, char, directive, multiline_trivia, name, mname, path, interpolated_string, identifier_arg_list, expression}
-use Rattle.reading.specs.Rules.{expression_arg_list, operand, colon, as', specific_arg, import_args, encoding}
+use Rattle.reading.specs.Rules.{expression_arg_list, operand, colon, import_args, encoding}
 
 -- ws(char(c)) and mws(tag_no_case(s)), over the byte and over the word
 unfoldable pub char_of : ℕ → Parser

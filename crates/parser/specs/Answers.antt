@@ -3,7 +3,7 @@ use Rattle.std.specs.Prelude.{Bool, List, [], ◌≡◌, ℕ, ◌≤◌, length}
 use Rattle.std.proofs.Math.Option.{none}
 use Rattle.reading.specs.Reading.{written, start}
 use Rattle.reading.specs.Table.{Answer as Answered, answered, refused, first_high, filled, max_text, max_scope, max_level}
-use Rattle.reading.specs.Outcome.{Call, Counts, Outcome, outcome}
+use Rattle.reading.specs.Outcome.{Call, Counts, outcome}
 use Rattle.line.specs.Lines.{lined}
 use Rattle.cursor.specs.declared.Cursor.{Cursor}
 use Rattle.state.specs.Acts.{tables, log, Acts}

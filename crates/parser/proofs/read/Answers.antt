@@ -1,12 +1,6 @@
-use borrow.Author.Rules.{rules}
 use mathlib.Core.Path.{ap, sym, ◌∙◌}
 use Rattle.trivia.specs.Answers.{high_of}
 use Rattle.parser.proofs.Ends.{long_meets, high_meets, scope_meets, level_meets, does_so, meets_lent}
-use Rattle.parser.proofs.read.Reads as reads
-use Rattle.parser.proofs.read.Lts as lts
-use Rattle.parser.proofs.settle.Reads as settle-reads
-use Rattle.statement.proofs.source_file.Reads as source-file-reads
-use Rattle.trivia.proofs.first_high.Reads as first-high-reads
 use Rattle.parser.proofs.read.Goals as goal
 
 pub returns-then-text-gt-MAX_TEXT : goal.returns-then-text-gt-MAX_TEXT

@@ -1,6 +1,3 @@
-use native.Mathlib.Omega.{arith}
-use borrow.Author.Rules.{rules}
-use Rattle.state.proofs.Agree.{not_got}
 use Rattle.parser.proofs.Ends.{deep_meets, rows_meet, errors_meet, requests_meet, read_meets}
 use Rattle.parser.proofs.settle.Goals as goal
 

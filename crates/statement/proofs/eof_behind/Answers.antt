@@ -1,6 +1,4 @@
-use native.Mathlib.Omega.{arith}
-use borrow.Author.Rules.{rules}
-use Rattle.statement.proofs.Drafts.{fit_count, fit_later, part_behind}
+use Rattle.statement.proofs.Drafts.{part_behind}
 use Rattle.statement.proofs.eof_behind.Goals as goal
 
 pub returns : goal.returns

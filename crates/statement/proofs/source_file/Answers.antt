@@ -1,11 +1,5 @@
-use Prim.Native.Nat.{◌-◌}
 use native.Mathlib.Omega.{arith}
-use mathlib.Core.Path.{◌∙◌}
-use lib.ListN.{length}
-use borrow.Author.Rules.{rules}
-use Rattle.line.specs.Marks.{On}
-use Rattle.state.specs.Acts.{tables}
-use Rattle.statement.proofs.Files.{start_fit, Filling, filling_none, filling_rows, filling_numbered, filling_less, filling_few, filling_more, filling_fit, filling_end, filling_deep}
+use Rattle.statement.proofs.Files.{start_fit, filling_none, filling_numbered, filling_less, filling_few, filling_more, filling_fit, filling_end, filling_deep}
 use Rattle.statement.proofs.source_file.Goals as goal
 
 pub loop-d-init : goal.loop-d-init
@@ -13,8 +7,10 @@ loop-d-init c = (c.start-here.ensures, filling_none _ _ (start_fit c.requires))
 
 pub overflow_add-n : goal.overflow_add-n
 overflow_add-n c =
-    omega (arith,
-    filling_few c.loop-d.invariant.1 c.token_behind-f.ensures c.in-Got.d c.in-Got.x c.in-Got.is c.token_behind-f.auto.rows c.token_behind-f.auto.errors c.token_behind-f.auto.requests)
+    omega (
+      arith,
+      filling_few c.loop-d.invariant.1 c.token_behind-f.ensures c.in-Got.d c.in-Got.x c.in-Got.is c.token_behind-f.auto.rows c.token_behind-f.auto.errors c.token_behind-f.auto.requests,
+    )
 
 pub number-here-requires : goal.number-here-requires
 number-here-requires c = (c.requires.0, c.loop-d.invariant.0, omega arith, filling_numbered c.loop-d.invariant.1 c.token_behind-f.ensures)

@@ -1,12 +1,9 @@
 -- The invariant: the table is that of a reading that fills in no line, with the lines of the rows so far, and the stretch has its line.
 use Prim.Native.Nat.{◌-◌}
-use native.Mathlib.Omega.{arith}
-use mathlib.Core.Path.{◌∙◌}
 use lib.ListN.{length}
-use borrow.Author.Rules.{rules}
 use Rattle.line.specs.Marks.{On}
 use Rattle.state.specs.Acts.{tables}
-use Rattle.statement.proofs.Files.{start_fit, Filling, filling_none, filling_rows, filling_numbered, filling_less, filling_few, filling_more, filling_fit, filling_end, filling_deep}
+use Rattle.statement.proofs.Files.{Filling}
 use Rattle.statement.proofs.source_file.Given as goal
 
 abbrev pub invariant-loop-d : goal.invariant-loop-d

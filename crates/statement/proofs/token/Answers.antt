@@ -1,11 +1,5 @@
 use Rattle.statement.proofs.Chains.{does_first, does_next, fit_next}
 use Rattle.statement.proofs.Tests.{statement_sober}
-use Rattle.state.proofs.Agree.{not_miss}
-use borrow.Author.Rules.{rules}
-use Rattle.statement.proofs.token.Reads as reads
-use Rattle.statement.proofs.token.Lts as lts
-use Rattle.statement.proofs.stmt.statement.Reads as statement-reads
-use Rattle.statement.proofs.text.error.Reads as error-reads
 use Rattle.statement.proofs.token.Goals as goal
 
 pub returns-in_default : goal.returns-in_default

@@ -1,5 +1,4 @@
 -- The answer and the table are those of the definition, so what is shown of them is what it exports.
-use borrow.Author.Rules.{rules}
 use Rattle.vireopatch.proofs.Shown.{items_shown}
 use Rattle.vireopatch.proofs.vireopatch_items.Goals as goal
 

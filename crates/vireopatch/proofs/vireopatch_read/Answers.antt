@@ -1,5 +1,4 @@
 -- The answer and the tables are the outcome, so what is shown of them is what the outcome exports.
-use borrow.Author.Rules.{rules}
 use Rattle.vireopatch.proofs.Shown.{read_shown}
 use Rattle.vireopatch.proofs.vireopatch_read.Goals as goal
 

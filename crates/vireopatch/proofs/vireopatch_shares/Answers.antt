@@ -1,6 +1,5 @@
 -- The answer is that of the definition, so what is shown of it is what it exports.
 use Rattle.vireopatch.proofs.Shown.{shares_shown}
-use borrow.Author.Rules.{rules}
 use Rattle.vireopatch.proofs.vireopatch_shares.Goals as goal
 
 pub returns : goal.returns

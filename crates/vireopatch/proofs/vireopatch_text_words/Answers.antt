@@ -1,6 +1,5 @@
 -- The answer and the table are those of the definition, so what is shown of them is what it exports.
 use Rattle.vireopatch.proofs.Shown.{words_shown}
-use borrow.Author.Rules.{rules}
 use Rattle.vireopatch.proofs.vireopatch_text_words.Goals as goal
 
 pub returns : goal.returns

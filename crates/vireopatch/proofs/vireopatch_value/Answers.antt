@@ -1,5 +1,4 @@
 -- No type, or the value in the base of the type.
-use borrow.Author.Rules.{rules}
 use Rattle.vireopatch.proofs.Shown.{no_type_shown, value_shown}
 use Rattle.vireopatch.proofs.vireopatch_value.Goals as goal
 

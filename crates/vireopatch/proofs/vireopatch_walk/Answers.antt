@@ -1,5 +1,4 @@
 -- The answer is that of the definition, so what is shown of it is what it exports.
-use borrow.Author.Rules.{rules}
 use Rattle.vireopatch.proofs.Shown.{walk_shown}
 use Rattle.vireopatch.proofs.vireopatch_walk.Goals as goal
 

@@ -1,6 +1,5 @@
 use Rattle.head.specs.Heads.{word_of, assigned, named, varconst}
 use Rattle.reading.specs.Rules.{const_definition}
-use borrow.Author.Rules.{rules}
 use Rattle.head.proofs.definition.const_definition.Goals as goal
 
 pub returns : goal.returns

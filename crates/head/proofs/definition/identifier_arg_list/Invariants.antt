@@ -1,17 +1,8 @@
-use mathlib.Core.Path.{◌∙◌}
 use Prim.Native.Nat.{ℕ, ◌-◌}
-use native.Mathlib.Omega.{arith}
 use lib.ListN.{length}
-use Rattle.reading.specs.Rules.{name, identifier_arg_list}
-use Rattle.cursor.proofs.Laws.{reads_leaf, stepped, leaf_deep}
-use Rattle.cursor.proofs.Loops.{Listed, listed_none, list_out, list_step, list_last, list_more}
-use Rattle.cursor.proofs.Rounds.{progress_ready}
-use Rattle.lexis.proofs.Solids.{name_solid}
-use Rattle.head.proofs.Bounds.{paid_up, next}
+use Rattle.reading.specs.Rules.{name}
+use Rattle.cursor.proofs.Loops.{Listed}
 use Rattle.head.specs.Heads.{char_of}
-use Rattle.head.proofs.Tests.{char_solid, name_comma_solid}
-use Rattle.cursor.proofs.Agree.{not_got}
-use borrow.Author.Rules.{rules}
 use Rattle.head.proofs.definition.identifier_arg_list.Given as goal
 
 abbrev pub invariant-loop-d : goal.invariant-loop-d

@@ -7,7 +7,6 @@ use Rattle.head.proofs.Steps.{seq_stop, seq_on}
 use Rattle.head.proofs.Bounds.{paid_up, next}
 use Rattle.head.specs.Heads.{label_head}
 use lib.Dec.{lit≤}
-use borrow.Author.Rules.{rules}
 use Rattle.head.proofs.definition.label_head.Goals as goal
 
 pub returns-in_default : goal.returns-in_default

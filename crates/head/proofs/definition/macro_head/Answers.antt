@@ -6,7 +6,6 @@ use Rattle.head.specs.Heads.{word_of, directive_of, macro_head}
 use Rattle.head.proofs.Tests.{word_solid, lines_quiet}
 use Rattle.reading.specs.Kind.{wordᵏ}
 use lib.Dec.{lit≤}
-use borrow.Author.Rules.{rules}
 use Rattle.head.proofs.definition.macro_head.Goals as goal
 
 pub returns-in_default : goal.returns-in_default

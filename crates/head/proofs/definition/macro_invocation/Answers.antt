@@ -4,8 +4,7 @@ use Rattle.head.proofs.Wholes.{over_stop}
 use Rattle.head.proofs.Tests.{call_owing}
 use Rattle.head.proofs.Statements.{name_begins, rest_ready, rest_closable, rest_whole}
 use Rattle.reading.specs.Kind.{macro_invocationᵏ}
-use lib.Dec.{lit≤, lit<}
-use borrow.Author.Rules.{rules}
+use lib.Dec.{lit≤}
 use Rattle.head.proofs.definition.macro_invocation.Goals as goal
 
 pub returns-in_default : goal.returns-in_default

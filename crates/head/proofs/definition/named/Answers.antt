@@ -3,7 +3,6 @@ use Rattle.lexis.proofs.Solids.{name_solid}
 use Rattle.head.proofs.Steps.{seq_stop, seq_on}
 use Rattle.head.proofs.Bounds.{paid_up, next}
 use Rattle.head.specs.Heads.{assigned, named}
-use borrow.Author.Rules.{rules}
 use Rattle.head.proofs.definition.named.Goals as goal
 
 pub returns-in_default : goal.returns-in_default

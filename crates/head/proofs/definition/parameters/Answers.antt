@@ -3,7 +3,6 @@ use Rattle.head.proofs.Steps.{seq_stop, seq_on, reads_optional}
 use Rattle.head.proofs.Bounds.{paid_up, next}
 use Rattle.head.specs.Heads.{char_of, parameters}
 use Rattle.head.proofs.Tests.{char_solid, names_owing}
-use borrow.Author.Rules.{rules}
 use Rattle.head.proofs.definition.parameters.Goals as goal
 
 pub returns-in_default : goal.returns-in_default

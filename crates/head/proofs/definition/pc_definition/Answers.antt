@@ -5,8 +5,7 @@ use Rattle.head.specs.Heads.{assigned}
 use Rattle.head.proofs.Tests.{assigned_owing}
 use Rattle.head.proofs.Statements.{char_begins, rest_ready, rest_closable, rest_whole}
 use Rattle.reading.specs.Kind.{program_counter_definitionᵏ}
-use lib.Dec.{lit≤, lit<}
-use borrow.Author.Rules.{rules}
+use lib.Dec.{lit≤}
 use Rattle.head.proofs.definition.pc_definition.Goals as goal
 
 pub returns-in_default : goal.returns-in_default

@@ -5,8 +5,7 @@ use Rattle.head.specs.Heads.{word_of, named, varconst}
 use Rattle.head.proofs.Tests.{named_owing}
 use Rattle.head.proofs.Statements.{word_begins, rest_ready, rest_closable, rest_whole}
 use Rattle.reading.specs.Kind.{variable_typeᵏ, variable_definitionᵏ}
-use lib.Dec.{lit≤, lit<}
-use borrow.Author.Rules.{rules}
+use lib.Dec.{lit≤}
 use Rattle.head.proofs.definition.varconst.Goals as goal
 
 pub returns-in_default : goal.returns-in_default

@@ -1,6 +1,5 @@
 use Rattle.head.specs.Heads.{word_of, assigned, named, varconst}
 use Rattle.reading.specs.Rules.{variable_definition}
-use borrow.Author.Rules.{rules}
 use Rattle.head.proofs.definition.variable_definition.Goals as goal
 
 pub returns : goal.returns

@@ -3,9 +3,8 @@ use Rattle.head.specs.Heads.{word_of, directive_of, asserted}
 use Rattle.head.proofs.Tests.{asserted_owing}
 use Rattle.head.proofs.Statements.{word_begins, rest_ready, rest_closable, rest_whole}
 use Rattle.reading.specs.Kind.{wordᵏ, assertᵏ}
-use lib.Dec.{lit≤, lit<}
+use lib.Dec.{lit≤}
 use Rattle.reading.specs.Rules.{assert}
-use borrow.Author.Rules.{rules}
 use Rattle.head.proofs.directive.assert.Goals as goal
 
 pub returns-in_default : goal.returns-in_default

@@ -4,7 +4,6 @@ use Rattle.head.proofs.Steps.{seq_stop, seq_on, reads_optional}
 use Rattle.head.proofs.Bounds.{next}
 use Rattle.head.specs.Heads.{asserted}
 use Rattle.head.proofs.Tests.{expression_owing}
-use borrow.Author.Rules.{rules}
 use Rattle.head.proofs.directive.asserted.Goals as goal
 
 pub returns-in_default : goal.returns-in_default

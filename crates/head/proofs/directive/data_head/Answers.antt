@@ -1,9 +1,7 @@
 use Rattle.reading.specs.Rules.{multiline_trivia, data_size}
 use Rattle.cursor.proofs.Laws.{reads_leaf}
 use Rattle.head.proofs.Steps.{or_stop, or_on, skip_again}
-use Rattle.head.proofs.Bounds.{again_ready}
 use Rattle.head.specs.Heads.{wide_size}
-use borrow.Author.Rules.{rules}
 use Rattle.head.proofs.directive.data_head.Goals as goal
 
 pub returns-in_default : goal.returns-in_default

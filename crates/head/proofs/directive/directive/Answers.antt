@@ -1,7 +1,6 @@
 use Rattle.reading.specs.Rules.{multiline_trivia}
 use Rattle.head.proofs.Steps.{flat_leaf}
 use Rattle.head.specs.Heads.{word_of, directive_of}
-use borrow.Author.Rules.{rules}
 use Rattle.head.proofs.directive.directive.Goals as goal
 
 pub returns : goal.returns

@@ -4,7 +4,6 @@ use Rattle.head.proofs.Bounds.{paid_up, next}
 use Rattle.head.specs.Heads.{directive_of, directive_expression}
 use Rattle.head.proofs.Tests.{word_solid}
 use Rattle.reading.specs.Kind.{wordᵏ}
-use borrow.Author.Rules.{rules}
 use Rattle.head.proofs.directive.directive_expression.Goals as goal
 
 pub returns-in_default : goal.returns-in_default

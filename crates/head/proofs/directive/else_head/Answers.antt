@@ -1,5 +1,4 @@
 use Rattle.head.specs.Heads.{word_of, directive_of}
-use borrow.Author.Rules.{rules}
 use Rattle.head.proofs.directive.else_head.Goals as goal
 
 pub returns : goal.returns

@@ -1,7 +1,6 @@
 use Rattle.reading.specs.Rules.{expression}
 use Rattle.head.proofs.Steps.{or_stop, or_on}
 use Rattle.head.specs.Heads.{encoded}
-use borrow.Author.Rules.{rules}
 use Rattle.head.proofs.directive.encoded.Goals as goal
 
 pub returns-in_default : goal.returns-in_default

@@ -1,9 +1,8 @@
 use Rattle.reading.specs.Rules.{expression}
 use Rattle.cursor.proofs.Laws.{reads_leaf}
 use Rattle.head.proofs.Steps.{seq_stop, seq_on}
-use Rattle.head.proofs.Bounds.{paid_up, next, more_ready}
+use Rattle.head.proofs.Bounds.{paid_up, next}
 use Rattle.head.proofs.Tests.{encoding_solid}
-use borrow.Author.Rules.{rules}
 use Rattle.head.proofs.directive.encoding_expression.Goals as goal
 
 pub returns-in_default : goal.returns-in_default

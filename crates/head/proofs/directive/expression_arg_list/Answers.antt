@@ -1,5 +1,4 @@
 use Rattle.head.proofs.Arguments.{reads_arguments}
-use borrow.Author.Rules.{rules}
 use Rattle.head.proofs.directive.expression_arg_list.Goals as goal
 
 pub returns : goal.returns

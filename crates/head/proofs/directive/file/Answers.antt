@@ -6,8 +6,7 @@ use Rattle.head.specs.Heads.{word_of, directive_of}
 use Rattle.head.proofs.Tests.{string_owing}
 use Rattle.head.proofs.Statements.{word_begins, rest_ready, rest_closable, rest_whole}
 use Rattle.reading.specs.Kind.{wordᵏ, fileᵏ}
-use lib.Dec.{lit≤, lit<}
-use borrow.Author.Rules.{rules}
+use lib.Dec.{lit≤}
 use Rattle.head.proofs.directive.file.Goals as goal
 
 pub returns-in_default : goal.returns-in_default

@@ -3,9 +3,8 @@ use Rattle.head.specs.Heads.{word_of, directive_of, encoded}
 use Rattle.head.proofs.Tests.{encoded_owing}
 use Rattle.head.proofs.Statements.{word_begins, rest_ready, rest_closable, rest_whole}
 use Rattle.reading.specs.Kind.{wordᵏ, textᵏ}
-use lib.Dec.{lit≤, lit<}
+use lib.Dec.{lit≤}
 use Rattle.reading.specs.Rules.{text}
-use borrow.Author.Rules.{rules}
 use Rattle.head.proofs.directive.text.Goals as goal
 
 pub returns-in_default : goal.returns-in_default

@@ -5,8 +5,7 @@ use Rattle.head.specs.Heads.{word_of, directive_of, traced}
 use Rattle.head.proofs.Tests.{traced_owing}
 use Rattle.head.proofs.Statements.{word_begins, rest_ready, rest_closable, rest_whole}
 use Rattle.reading.specs.Kind.{wordᵏ, traceᵏ}
-use lib.Dec.{lit≤, lit<}
-use borrow.Author.Rules.{rules}
+use lib.Dec.{lit≤}
 use Rattle.head.proofs.directive.trace.Goals as goal
 
 pub returns-in_default : goal.returns-in_default

@@ -3,7 +3,6 @@ use Rattle.head.proofs.Steps.{seq_stop, seq_on, reads_optional}
 use Rattle.head.proofs.Bounds.{paid_up, next, past}
 use Rattle.head.specs.Heads.{char_of, traced}
 use Rattle.head.proofs.Tests.{char_solid, arguments_owing}
-use borrow.Author.Rules.{rules}
 use Rattle.head.proofs.directive.traced.Goals as goal
 
 pub returns-in_default : goal.returns-in_default

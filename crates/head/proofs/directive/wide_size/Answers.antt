@@ -2,7 +2,6 @@ use Rattle.reading.specs.Rules.{multiline_trivia}
 use Rattle.cursor.proofs.Laws.{reads_leaf}
 use Rattle.head.proofs.Steps.{or_stop, or_on, skip_again}
 use Rattle.head.specs.Heads.{wide_size}
-use borrow.Author.Rules.{rules}
 use Rattle.head.proofs.directive.wide_size.Goals as goal
 
 pub returns-in_default : goal.returns-in_default

@@ -4,7 +4,6 @@ use Rattle.head.proofs.Steps.{seq_stop, seq_on}
 use Rattle.head.proofs.Bounds.{paid_up, next}
 use Rattle.head.specs.Heads.{as_path}
 use Rattle.head.proofs.Tests.{as_solid}
-use borrow.Author.Rules.{rules}
 use Rattle.head.proofs.import.as_path.Goals as goal
 
 pub returns-in_default : goal.returns-in_default

@@ -1,6 +1,5 @@
 use Rattle.head.proofs.Steps.{or_stop, or_on}
 use Rattle.reading.specs.Rules.{import_args}
-use borrow.Author.Rules.{rules}
 use Rattle.head.proofs.import.import_args.Goals as goal
 
 pub returns-in_default : goal.returns-in_default

@@ -1,5 +1,4 @@
 use Rattle.head.proofs.Steps.{flat_leaf}
-use borrow.Author.Rules.{rules}
 use Rattle.head.proofs.import.import_file.Goals as goal
 
 pub returns : goal.returns

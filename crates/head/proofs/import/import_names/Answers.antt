@@ -5,8 +5,7 @@ use Rattle.head.proofs.Steps.{seq_stop, seq_on}
 use Rattle.head.proofs.Bounds.{next}
 use Rattle.head.specs.Heads.{import_names}
 use Rattle.head.proofs.Tests.{import_args_owing}
-use lib.Dec.{lit≤, lit<}
-use borrow.Author.Rules.{rules}
+use lib.Dec.{lit≤}
 use Rattle.head.proofs.import.import_names.Goals as goal
 
 pub returns-in_default : goal.returns-in_default

@@ -3,7 +3,6 @@ use Rattle.cursor.proofs.Laws.{reads_leaf}
 use Rattle.lexis.proofs.Solids.{path_solid}
 use Rattle.head.proofs.Steps.{seq_stop, seq_on}
 use Rattle.head.proofs.Bounds.{paid_up, next}
-use borrow.Author.Rules.{rules}
 use Rattle.head.proofs.import.path_renamed.Goals as goal
 
 pub returns-in_default : goal.returns-in_default

@@ -1,7 +1,6 @@
 use Rattle.reading.specs.Rules.{as'}
 use Rattle.head.proofs.Steps.{reads_optional}
 use Rattle.head.specs.Heads.{as_path}
-use borrow.Author.Rules.{rules}
 use Rattle.head.proofs.import.renamed.Goals as goal
 
 pub returns : goal.returns

@@ -3,9 +3,8 @@ use Rattle.head.proofs.Wholes.{node_whole}
 use Rattle.head.proofs.Bounds.{behind_ready, closable}
 use Rattle.head.proofs.Tests.{renamed_owing}
 use Rattle.reading.specs.Kind.{import_argumentᵏ}
-use lib.Dec.{lit≤, lit<}
+use lib.Dec.{lit≤}
 use Rattle.reading.specs.Rules.{specific_arg}
-use borrow.Author.Rules.{rules}
 use Rattle.head.proofs.import.specific_arg.Goals as goal
 
 pub whole-requires-clause-closable : goal.whole-requires-clause-closable

@@ -1,16 +1,11 @@
-use mathlib.Core.Path.{◌∙◌}
-use Prim.Native.Nat.{ℕ, ◌-◌}
 use native.Mathlib.Omega.{arith}
-use lib.ListN.{length}
 use Rattle.cursor.proofs.Laws.{stepped, leaf_deep}
-use Rattle.cursor.proofs.Loops.{Listed, listed_none, list_out, list_step, list_last, list_more}
+use Rattle.cursor.proofs.Loops.{listed_none, list_out, list_step, list_last, list_more}
 use Rattle.cursor.proofs.Rounds.{progress_ready}
 use Rattle.head.proofs.Bounds.{paid_up, next}
 use Rattle.head.specs.Heads.{char_of}
 use Rattle.head.proofs.Tests.{char_solid, specific_solid, specific_comma_solid}
 use Rattle.reading.specs.Rules.{specific_arg}
-use Rattle.cursor.proofs.Agree.{not_got}
-use borrow.Author.Rules.{rules}
 use Rattle.head.proofs.import.specific_args.Goals as goal
 
 pub loop-d-init : goal.loop-d-init

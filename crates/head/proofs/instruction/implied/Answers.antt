@@ -2,15 +2,13 @@ use mathlib.Core.Bool.{true}
 use Rattle.reading.specs.Grammar.{never}
 use Rattle.reading.specs.Rules.{opt, multiline_trivia, operand}
 use Rattle.cursor.proofs.Laws.{reads_leaf}
-use Rattle.lexis.proofs.Marks.{placed}
 use Rattle.head.proofs.Steps.{reads_tried}
 use Rattle.head.proofs.Wholes.{over_stop}
 use Rattle.head.specs.Heads.{implied}
 use Rattle.head.proofs.Tests.{operand_quiet, tried_owing}
 use Rattle.head.proofs.Statements.{mnemonic_begins, rest_ready, rest_closable, rest_whole}
 use Rattle.reading.specs.Kind.{instructionᵏ}
-use lib.Dec.{lit≤, lit<}
-use borrow.Author.Rules.{rules}
+use lib.Dec.{lit≤}
 use Rattle.head.proofs.instruction.implied.Goals as goal
 
 pub returns-in_default : goal.returns-in_default

@@ -1,8 +1,6 @@
 use Rattle.head.proofs.Steps.{or_stop, or_on, skip_again}
-use Rattle.head.proofs.Bounds.{again_ready}
 use Rattle.head.specs.Heads.{with_operand, implied}
 use Rattle.reading.specs.Rules.{instruction}
-use borrow.Author.Rules.{rules}
 use Rattle.head.proofs.instruction.instruction.Goals as goal
 
 pub returns-in_default : goal.returns-in_default

@@ -1,6 +1,5 @@
 use mathlib.Core.Path.{sym, ap}
 use Rattle.head.specs.Parts.{tried}
-use borrow.Author.Rules.{rules}
 use Rattle.head.proofs.instruction.tried.Goals as goal
 
 pub returns-in-Got : goal.returns-in-Got

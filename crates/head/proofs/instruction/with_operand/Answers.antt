@@ -1,15 +1,13 @@
 use mathlib.Core.Bool.{false}
 use Rattle.reading.specs.Rules.{opt, multiline_trivia, operand}
 use Rattle.cursor.proofs.Laws.{reads_leaf}
-use Rattle.lexis.proofs.Marks.{placed}
 use Rattle.head.proofs.Steps.{reads_optional}
 use Rattle.head.proofs.Wholes.{over_stop}
 use Rattle.head.specs.Heads.{with_operand}
 use Rattle.head.proofs.Tests.{operand_owing}
 use Rattle.head.proofs.Statements.{mnemonic_begins, rest_ready, rest_closable, rest_whole}
 use Rattle.reading.specs.Kind.{instructionᵏ}
-use lib.Dec.{lit≤, lit<}
-use borrow.Author.Rules.{rules}
+use lib.Dec.{lit≤}
 use Rattle.head.proofs.instruction.with_operand.Goals as goal
 
 pub returns-in_default : goal.returns-in_default

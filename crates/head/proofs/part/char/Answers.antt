@@ -1,6 +1,5 @@
 use Rattle.reading.specs.Rules.{trivia}
 use Rattle.head.specs.Heads.{char_of}
-use borrow.Author.Rules.{rules}
 use Rattle.head.proofs.part.char.Goals as goal
 
 pub returns : goal.returns

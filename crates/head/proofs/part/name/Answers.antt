@@ -1,5 +1,4 @@
 use Rattle.reading.specs.Rules.{trivia, name}
-use borrow.Author.Rules.{rules}
 use Rattle.head.proofs.part.name.Goals as goal
 
 pub returns : goal.returns

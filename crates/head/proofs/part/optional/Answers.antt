@@ -1,5 +1,4 @@
 use Rattle.head.proofs.Steps.{optional_kept, optional_none}
-use borrow.Author.Rules.{rules}
 use Rattle.head.proofs.part.optional.Goals as goal
 
 pub returns-in_default : goal.returns-in_default

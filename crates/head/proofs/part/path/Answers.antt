@@ -1,5 +1,4 @@
 use Rattle.reading.specs.Rules.{trivia, path}
-use borrow.Author.Rules.{rules}
 use Rattle.head.proofs.part.path.Goals as goal
 
 pub returns : goal.returns

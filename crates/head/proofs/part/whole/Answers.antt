@@ -1,6 +1,4 @@
-use native.Mathlib.Omega.{arith}
 use Rattle.head.proofs.Wholes.{whole_none, whole_some}
-use borrow.Author.Rules.{rules}
 use Rattle.head.proofs.part.whole.Goals as goal
 
 pub returns-in_default : goal.returns-in_default

@@ -1,17 +1,9 @@
 use Rattle.statement.proofs.Parts.{shut_first, shut_missing}
 use Rattle.statement.proofs.Chains.{fit_next}
 use Rattle.statement.proofs.Tests.{mark_paid}
-use Rattle.state.proofs.Agree.{not_miss}
 use Rattle.state.proofs.Bounds.{fit_errors}
 use mathlib.Core.List.{[]}
 use native.Mathlib.Omega.{arith}
-use borrow.Author.Rules.{rules}
-use Rattle.statement.proofs.brace.close.Reads as reads
-use Rattle.statement.proofs.brace.close.Lts as lts
-use Rattle.state.proofs.report.Reads as report-reads
-use Rattle.statement.proofs.brace.mark.Reads as mark-reads
-use Rattle.table.proofs.push_row.Reads as push-row-reads
-use Rattle.trivia.proofs.multiline_trivia.Reads as multiline-trivia-reads
 use Rattle.statement.proofs.brace.close.Goals as goal
 
 pub returns-in_default : goal.returns-in_default

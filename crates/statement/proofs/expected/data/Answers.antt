@@ -2,16 +2,8 @@ use Rattle.statement.proofs.Lifts.{spans}
 use Rattle.statement.proofs.Tests.{size_paid, data_paid, size_moves}
 use Rattle.statement.proofs.Quiets.{data_out, data_values_out, data_got}
 use Rattle.statement.proofs.Chains.{does_then, fit_then, grown_then, moved_then}
-use Rattle.state.proofs.Agree.{not_got}
 use native.Mathlib.Omega.{arith}
 use mathlib.Core.List.{[]}
-use mathlib.Core.Path.{◌∙◌}
-use borrow.Author.Rules.{rules}
-use Rattle.statement.proofs.expected.data.Reads as reads
-use Rattle.statement.proofs.expected.data.Lts as lts
-use Rattle.statement.proofs.expected.values.Reads as values-reads
-use Rattle.statement.proofs.row.close.Reads as close-reads
-use Rattle.statement.proofs.start.data_head.Reads as data-head-reads
 use Rattle.statement.proofs.expected.data.Goals as goal
 
 pub returns-in_default : goal.returns-in_default

@@ -2,16 +2,7 @@ use Rattle.statement.proofs.Lifts.{spans}
 use Rattle.statement.proofs.Tests.{define_paid, definition_paid}
 use Rattle.statement.proofs.Quiets.{definition_out, definition_map_out, definition_got}
 use Rattle.statement.proofs.Chains.{does_then, fit_then, grown_then}
-use Rattle.state.proofs.Agree.{not_got}
-use native.Mathlib.Omega.{arith}
 use mathlib.Core.List.{[]}
-use mathlib.Core.Path.{◌∙◌}
-use borrow.Author.Rules.{rules}
-use Rattle.statement.proofs.expected.definition.Reads as reads
-use Rattle.statement.proofs.expected.definition.Lts as lts
-use Rattle.statement.proofs.expected.map.Reads as map-reads
-use Rattle.statement.proofs.row.close.Reads as close-reads
-use Rattle.statement.proofs.start.define_head.Reads as define-head-reads
 use Rattle.statement.proofs.expected.definition.Goals as goal
 
 pub returns-in_default : goal.returns-in_default

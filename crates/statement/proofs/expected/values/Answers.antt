@@ -2,16 +2,9 @@ use Rattle.statement.proofs.Lifts.{lift, fit_lifts}
 use Rattle.statement.proofs.Tests.{head_quiet, missing_sober}
 use Rattle.statement.proofs.Quiets.{tells_expect, tells_missing}
 use Rattle.statement.proofs.Chains.{fit_next}
-use Rattle.state.proofs.Agree.{not_miss}
 use Rattle.state.proofs.Bounds.{fit_errors}
 use native.Mathlib.Omega.{arith}
 use mathlib.Core.List.{[]}
-use borrow.Author.Rules.{rules}
-use Rattle.statement.proofs.expected.values.Reads as reads
-use Rattle.statement.proofs.expected.values.Lts as lts
-use Rattle.state.proofs.report.Reads as report-reads
-use Rattle.head.proofs.directive.expression_arg_list.Reads as expression-arg-list-reads
-use Rattle.statement.proofs.lift.lifted.Reads as lifted-reads
 use Rattle.statement.proofs.expected.values.Goals as goal
 
 pub lifted-r-requires : goal.lifted-r-requires

@@ -1,10 +1,5 @@
 use Rattle.statement.proofs.Lifts.{lift, fit_lifts}
 use Rattle.statement.proofs.Tests.{statement_quiet}
-use borrow.Author.Rules.{rules}
-use Rattle.statement.proofs.quiet.align.Reads as reads
-use Rattle.statement.proofs.quiet.align.Lts as lts
-use Rattle.head.proofs.directive.align.Reads as align-reads
-use Rattle.statement.proofs.lift.lifted.Reads as lifted-reads
 use Rattle.statement.proofs.quiet.align.Goals as goal
 
 pub lifted-requires : goal.lifted-requires

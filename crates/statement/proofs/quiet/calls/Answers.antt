@@ -1,13 +1,7 @@
 use Rattle.statement.proofs.Quiets.{tells_first, tells_next}
 use Rattle.statement.proofs.Chains.{fit_next}
 use Rattle.statement.proofs.Tests.{quiet_sober}
-use Rattle.state.proofs.Agree.{not_miss}
 use mathlib.Core.List.{[]}
-use borrow.Author.Rules.{rules}
-use Rattle.statement.proofs.quiet.calls.Reads as reads
-use Rattle.statement.proofs.quiet.calls.Lts as lts
-use Rattle.statement.proofs.expected.data.Reads as data_Reads
-use Rattle.statement.proofs.quiet.invoke.Reads as invoke-reads
 use Rattle.statement.proofs.quiet.calls.Goals as goal
 
 pub returns-in_default : goal.returns-in_default

@@ -1,10 +1,5 @@
 use Rattle.statement.proofs.Lifts.{lift, fit_lifts}
 use Rattle.statement.proofs.Tests.{statement_quiet}
-use borrow.Author.Rules.{rules}
-use Rattle.statement.proofs.quiet.counter.Reads as reads
-use Rattle.statement.proofs.quiet.counter.Lts as lts
-use Rattle.head.proofs.definition.pc_definition.Reads as pc-definition-reads
-use Rattle.statement.proofs.lift.lifted.Reads as lifted-reads
 use Rattle.statement.proofs.quiet.counter.Goals as goal
 
 pub lifted-requires : goal.lifted-requires

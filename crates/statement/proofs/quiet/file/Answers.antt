@@ -1,10 +1,5 @@
 use Rattle.statement.proofs.Lifts.{lift_flat, fit_lifts}
 use Rattle.statement.proofs.Tests.{statement_quiet}
-use borrow.Author.Rules.{rules}
-use Rattle.statement.proofs.quiet.file.Reads as reads
-use Rattle.statement.proofs.quiet.file.Lts as lts
-use Rattle.head.proofs.directive.file.Reads as file-reads
-use Rattle.statement.proofs.lift.lifted.Reads as lifted-reads
 use Rattle.statement.proofs.quiet.file.Goals as goal
 
 pub lifted-requires : goal.lifted-requires

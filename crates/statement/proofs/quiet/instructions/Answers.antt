@@ -1,17 +1,7 @@
 use Rattle.statement.proofs.Quiets.{tells_first, tells_next}
 use Rattle.statement.proofs.Chains.{fit_next}
 use Rattle.statement.proofs.Tests.{quiet_sober}
-use Rattle.state.proofs.Agree.{not_miss}
 use mathlib.Core.List.{[]}
-use mathlib.Core.Path.{◌∙◌}
-use borrow.Author.Rules.{rules}
-use Rattle.statement.proofs.quiet.instructions.Reads as reads
-use Rattle.statement.proofs.quiet.instructions.Lts as lts
-use Rattle.statement.proofs.expected.definition.Reads as definition-reads
-use Rattle.statement.proofs.quiet.constant.Reads as constant-reads
-use Rattle.statement.proofs.quiet.counter.Reads as counter-reads
-use Rattle.statement.proofs.quiet.instruct.Reads as instruct-reads
-use Rattle.statement.proofs.quiet.variable.Reads as variable-reads
 use Rattle.statement.proofs.quiet.instructions.Goals as goal
 
 pub returns-in_default : goal.returns-in_default

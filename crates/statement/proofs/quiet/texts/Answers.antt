@@ -1,13 +1,7 @@
 use Rattle.statement.proofs.Quiets.{tells_first, tells_next, leaf_tells}
 use Rattle.statement.proofs.Chains.{fit_next}
 use Rattle.statement.proofs.Tests.{quiet_sober}
-use Rattle.state.proofs.Agree.{not_miss}
 use mathlib.Core.List.{[]}
-use borrow.Author.Rules.{rules}
-use Rattle.statement.proofs.quiet.texts.Reads as reads
-use Rattle.statement.proofs.quiet.texts.Lts as lts
-use Rattle.statement.proofs.quiet.file.Reads as file-reads
-use Rattle.statement.proofs.quiet.text.Reads as text-reads
 use Rattle.statement.proofs.quiet.texts.Goals as goal
 
 pub returns-in_default : goal.returns-in_default

@@ -1,10 +1,5 @@
 use Rattle.statement.proofs.Lifts.{lift, fit_lifts}
 use Rattle.statement.proofs.Tests.{statement_quiet}
-use borrow.Author.Rules.{rules}
-use Rattle.statement.proofs.quiet.trace.Reads as reads
-use Rattle.statement.proofs.quiet.trace.Lts as lts
-use Rattle.head.proofs.directive.trace.Reads as trace-reads
-use Rattle.statement.proofs.lift.lifted.Reads as lifted-reads
 use Rattle.statement.proofs.quiet.trace.Goals as goal
 
 pub lifted-requires : goal.lifted-requires

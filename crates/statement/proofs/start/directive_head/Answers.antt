@@ -1,10 +1,5 @@
 use Rattle.statement.proofs.Lifts.{lift, fit_lifts}
 use Rattle.statement.proofs.Tests.{directive_quiet}
-use borrow.Author.Rules.{rules}
-use Rattle.statement.proofs.start.directive_head.Reads as reads
-use Rattle.statement.proofs.start.directive_head.Lts as lts
-use Rattle.head.proofs.directive.directive_expression.Reads as directive-expression-reads
-use Rattle.statement.proofs.lift.lifted.Reads as lifted-reads
 use Rattle.statement.proofs.start.directive_head.Goals as goal
 
 pub lifted-requires : goal.lifted-requires

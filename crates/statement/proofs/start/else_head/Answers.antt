@@ -1,11 +1,5 @@
 use Rattle.statement.proofs.Lifts.{lift_flat, fit_lifts}
 use Rattle.statement.proofs.Tests.{head_quiet}
-use borrow.Author.Rules.{rules}
-use Rattle.statement.proofs.start.else_head.Reads as reads
-use Rattle.statement.proofs.start.else_head.Lts as lts
-use Rattle.head.proofs.directive.else_head.Reads as else-head-reads
-use Rattle.statement.proofs.lift.lifted.Reads as lifted-reads
-use Rattle.trivia.proofs.multiline_trivia.Reads as multiline-trivia-reads
 use Rattle.statement.proofs.start.else_head.Goals as goal
 
 pub lifted-requires : goal.lifted-requires

@@ -1,10 +1,5 @@
 use Rattle.statement.proofs.Lifts.{lift_flat, fit_lifts}
 use Rattle.statement.proofs.Tests.{head_quiet}
-use borrow.Author.Rules.{rules}
-use Rattle.statement.proofs.start.import_head.Reads as reads
-use Rattle.statement.proofs.start.import_head.Lts as lts
-use Rattle.head.proofs.import.import_head.Reads as import-head-reads
-use Rattle.statement.proofs.lift.lifted.Reads as lifted-reads
 use Rattle.statement.proofs.start.import_head.Goals as goal
 
 pub lifted-requires : goal.lifted-requires

@@ -1,14 +1,9 @@
-use Prim.Native.Nat.{ℕ, ◌+◌, ◌*◌, ◌-◌, ◌<◌, ◌≤◌}
 use mathlib.Core.List.{[]}
-use mathlib.Core.Path.{refl, ◌∙◌}
+use mathlib.Core.Path.{refl}
 use native.Mathlib.Omega.{arith}
-use borrow.Author.Rules.{rules}
-use lib.ListN.{length}
 use Rattle.reading.specs.Rules.{block_item}
-use Rattle.state.specs.Acts.{tables}
-use Rattle.state.proofs.Agree.{not_got, not_miss}
 use Rattle.state.proofs.Blocks.{ended}
-use Rattle.state.proofs.Items.{Walking, walking_none, walking_less, walking_more, walking_end, walking_deep}
+use Rattle.state.proofs.Items.{walking_none, walking_less, walking_more, walking_end, walking_deep}
 use Rattle.head.specs.Heads.{label_head, macro_head}
 use Rattle.statement.proofs.Lifts.{headed, spans}
 use Rattle.statement.proofs.Tests.{block_paid, body_paid, maybe_paid, item_paid, item_moves, label_paid, macro_paid, import_paid, else_paid, quoted_paid, quoted_moves, statement_sober, first_sober, second_sober, third_sober, fourth_sober}
@@ -268,9 +263,10 @@ items-loop-d-smaller t c =
 
 pub items-loop-d-preserved : goal.items-loop-d-preserved
 items-loop-d-preserved t c =
-    let w = walking_less c.loop-d.invariant.0 c.item-f.ensures item_paid.0 item_moves c.in-Got.d c.in-Got.x c.in-Got.is in
-    (walking_more c.loop-d.invariant.0 c.item-f.ensures item_paid.0 item_paid.1 item_moves c.in-Got.d c.in-Got.x c.in-Got.is c.item-f.auto.rows c.item-f.auto.errors c.item-f.auto.requests,
-    omega (arith, w.0))
+    let w = walking_less c.loop-d.invariant.0 c.item-f.ensures item_paid.0 item_moves c.in-Got.d c.in-Got.x c.in-Got.is in (
+      walking_more c.loop-d.invariant.0 c.item-f.ensures item_paid.0 item_paid.1 item_moves c.in-Got.d c.in-Got.x c.in-Got.is c.item-f.auto.rows c.item-f.auto.errors c.item-f.auto.requests,
+      omega (arith, w.0),
+    )
 
 pub items-returns-in-Miss : goal.items-returns-in-Miss
 items-returns-in-Miss t c = walking_end c.loop-d.invariant.0 c.item-f.ensures c.args.c.met c.in-Miss.x c.in-Miss.is

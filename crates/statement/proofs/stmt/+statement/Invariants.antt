@@ -1,21 +1,8 @@
-use Prim.Native.Nat.{ℕ, ◌+◌, ◌*◌, ◌-◌, ◌<◌, ◌≤◌}
-use mathlib.Core.List.{[]}
-use mathlib.Core.Path.{refl, ◌∙◌}
-use native.Mathlib.Omega.{arith}
-use borrow.Author.Rules.{rules}
+use Prim.Native.Nat.{◌+◌, ◌*◌, ◌-◌, ◌≤◌}
 use lib.ListN.{length}
 use Rattle.reading.specs.Rules.{block_item}
 use Rattle.state.specs.Acts.{tables}
-use Rattle.state.proofs.Agree.{not_got, not_miss}
-use Rattle.state.proofs.Blocks.{ended}
-use Rattle.state.proofs.Items.{Walking, walking_none, walking_less, walking_more, walking_end, walking_deep}
-use Rattle.head.specs.Heads.{label_head, macro_head}
-use Rattle.statement.proofs.Lifts.{headed, spans}
-use Rattle.statement.proofs.Tests.{block_paid, body_paid, maybe_paid, item_paid, item_moves, label_paid, macro_paid, import_paid, else_paid, quoted_paid, quoted_moves, statement_sober, first_sober, second_sober, third_sober, fourth_sober}
-use Rattle.statement.proofs.Tails.{ends_out, ends_body, ends_got, directive_headed}
-use Rattle.statement.proofs.Parts.{braces_out, braces_got, label_ends, directive_ends, macro_ends, import_head_out, import_name_out, import_block_out, import_all}
-use Rattle.statement.proofs.Chains.{does_first, does_next, does_out, does_then, does_opt, does_none, fit_then, fit_next, grown_then, moved_then, statement_is, second_is, third_is, fourth_is, segment_is, loop_is, if_is, test_is}
-use Rattle.statement.proofs.Chains.{body_maybe, body_block, body_branches, item_first, item_error, block_no_brace, block_too_deep, brace_fit, brace_at, brace_grown, block_items_out, block_end_out, block_whole, items_fit, items_grown}
+use Rattle.state.proofs.Items.{Walking}
 use Rattle.statement.proofs.stmt.+statement.Given as goal
 
 abbrev pub decreases-block : goal.decreases-block

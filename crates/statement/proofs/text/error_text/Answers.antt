@@ -1,15 +1,7 @@
 use Rattle.statement.proofs.Lifts.{fit_lifts}
 use Rattle.statement.proofs.Parts.{text_tells, error_out, error_fit, error_got}
-use Rattle.state.proofs.Agree.{not_got}
 use Rattle.state.proofs.Bounds.{fit_errors}
 use native.Mathlib.Omega.{arith}
-use borrow.Author.Rules.{rules}
-use Rattle.statement.proofs.text.error_text.Reads as reads
-use Rattle.statement.proofs.text.error_text.Lts as lts
-use Rattle.lexis.proofs.mark.run.Reads as run-reads
-use Rattle.state.proofs.report.Reads as report-reads
-use Rattle.statement.proofs.lift.lifted.Reads as lifted-reads
-use Rattle.trivia.proofs.multiline_trivia.Reads as multiline-trivia-reads
 use Rattle.statement.proofs.text.error_text.Goals as goal
 
 pub lifted-r-requires : goal.lifted-r-requires
