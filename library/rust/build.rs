@@ -1,4 +1,4 @@
-//! Links libvireopatch.a: from the folder that VIREOPATCH_LIB names, or from where `rt staticlib vireopatch` puts it.
+//! Links libvireopatch.a: from the folder that VIREOPATCH_LIB names, or from where `rt lib` in crates/vireopatch puts it.
 
 use std::path::PathBuf;
 
@@ -7,12 +7,12 @@ fn main() {
     let folder = match std::env::var_os("VIREOPATCH_LIB") {
         Some(folder) => PathBuf::from(folder),
         None => PathBuf::from(std::env::var_os("CARGO_MANIFEST_DIR").unwrap())
-            .join("../../target/staticlib"),
+            .join("../../crates/vireopatch/out"),
     };
     let archive = folder.join("libvireopatch.a");
     if !archive.exists() {
         panic!(
-            "{} is not there: run `rt staticlib vireopatch`, or set VIREOPATCH_LIB",
+            "{} is not there: run `rt lib` in crates/vireopatch, or set VIREOPATCH_LIB",
             archive.display()
         );
     }
