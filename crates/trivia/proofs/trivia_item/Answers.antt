@@ -1,6 +1,7 @@
 -- A case for each way out: the first byte decides.
 use mathlib.Core.Path.{sym, ◌∙◌}
 use native.Mathlib.Omega.{arith}
+use borrow.Author.Rules.{rules}
 use Rattle.trivia.proofs.Pieces.{above_blank, starts_end, starts_blank, starts_feed, starts_return, starts_lone_return, starts_other}
 use Rattle.trivia.proofs.trivia_item.Goals as goal
 
@@ -24,5 +25,5 @@ returns-else-byte_is c = starts_lone_return _ _ c.if-s-low.false c.in-13.is (sym
 
 pub returns-in_default : goal.returns-in_default
 returns-in_default c =
-    starts_other _ _ c.if-s-low.false (sym c.blank.ensures ∙ c.if-blank.false) c.in_default.in_default-own.rest.0.1 c.in_default.in_default-own.rest.1
+    starts_other _ _ c.if-s-low.false (sym c.blank.ensures ∙ c.if-blank.false) (search rules) (search rules)
     (λ e. omega (arith, e))

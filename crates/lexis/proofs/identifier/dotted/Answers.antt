@@ -6,9 +6,9 @@ use Rattle.lexis.proofs.Ends.{byte_at, byte_no, seq_at, seq_no}
 use Rattle.lexis.proofs.identifier.dotted.Goals as goal
 
 pub returns-then-not-byte_is : goal.returns-then-not-byte_is
-returns-then-not-byte_is c = seq_no identifier (byte_no 46 _ _ (sym c.byte_is.ensures ∙ not-true _ c.if-not-byte_is.true-raw))
+returns-then-not-byte_is c = seq_no identifier (byte_no 46 _ _ (sym c.byte_is.ensures ∙ c.if-not-byte_is.true))
 
 pub returns : goal.returns
 returns c =
-    seq_at identifier tt (byte_at 46 _ _ (sym c.byte_is.ensures ∙ not-false _ c.if-not-byte_is.false-raw) (record { 0 = _ }) refl)
+    seq_at identifier tt (byte_at 46 _ _ (sym c.byte_is.ensures ∙ c.if-not-byte_is.false) (record { 0 = _ }) refl)
     c.identifier.ensures

@@ -11,18 +11,18 @@ pub returns-then-s-i : goal.returns-then-s-i
 returns-then-s-i c = scope_end _ _ c.if-s-i.true
 
 pub returns-then-not-b : goal.returns-then-not-b
-returns-then-not-b c = scope_no _ _ c.if-s-i.false (not-true _ c.if-not-b.true-raw)
+returns-then-not-b c = scope_no _ _ c.if-s-i.false c.if-not-b.true
 
 pub returns-then-s-j : goal.returns-then-s-j
 returns-then-s-j c =
-    scope_at _ _ c.if-s-i.false (not-false _ c.if-not-b.false-raw) (never_no (one_end alphanumeric _ _ c.if-s-j.true) _ refl)
+    scope_at _ _ c.if-s-i.false c.if-not-b.false (never_no (one_end alphanumeric _ _ c.if-s-j.true) _ refl)
 
 pub returns-then-letter-digit : goal.returns-then-letter-digit
 returns-then-letter-digit c =
-    scope_at _ _ c.if-s-i.false (not-false _ c.if-not-b.false-raw)
+    scope_at _ _ c.if-s-i.false c.if-not-b.false
     (never_at tt (one_at alphanumeric _ _ c.if-s-j.false (sym (ap₂ ◌||◌ c.letter.ensures c.digit.ensures) ∙ c.if-letter-digit.true) (record { 0 = _ }) refl))
 
 pub returns : goal.returns
 returns c =
-    scope_at _ _ c.if-s-i.false (not-false _ c.if-not-b.false-raw)
+    scope_at _ _ c.if-s-i.false c.if-not-b.false
     (never_no (one_no alphanumeric _ _ c.if-s-j.false (sym (ap₂ ◌||◌ c.letter.ensures c.digit.ensures) ∙ c.if-letter-digit.false)) _ refl)

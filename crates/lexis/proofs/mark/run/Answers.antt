@@ -7,7 +7,7 @@ use Rattle.lexis.proofs.mark.run.Goals as goal
 
 pub returns-then-high-low : goal.returns-then-high-low
 returns-then-high-low c =
-    behind_none _ 0 (some_no (let e = c.args in among e.class e.inside) _ _ _ c.run_end-high.ensures c.if-high-low.true)
+    behind_none _ 0 (some_no (among c.args.class c.args.inside) _ _ _ c.run_end-high.ensures c.if-high-low.true)
 
 pub row-requires : goal.row-requires
 row-requires c =
@@ -16,4 +16,4 @@ row-requires c =
 
 pub returns : goal.returns
 returns c =
-    behind_found _ 0 tt (some_at (let e = c.args in among e.class e.inside) _ _ _ c.run_end-high.ensures c.if-high-low.false) c.row.ensures
+    behind_found _ 0 tt (some_at (among c.args.class c.args.inside) _ _ _ c.run_end-high.ensures c.if-high-low.false) c.row.ensures

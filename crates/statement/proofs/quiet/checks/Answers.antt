@@ -8,7 +8,7 @@ pub returns-in_default : goal.returns-in_default
 returns-in_default c = tells_first c.assert-r.ensures c.in_default.not-Miss
 
 pub trace-requires-clause-fit : goal.trace-requires-clause-fit
-trace-requires-clause-fit c = let h1 = fit_next (c.assert-r.ensures.does []) c.requires.fit quiet_sober.6 c.in-Miss.st c.in-Miss.is in h1
+trace-requires-clause-fit c = fit_next (c.assert-r.ensures.does []) c.requires.fit quiet_sober.6 c.in-Miss.st c.in-Miss.is
 
 pub returns : goal.returns
 returns c = tells_next c.assert-r.ensures c.in-Miss.st c.in-Miss.is c.trace.ensures

@@ -8,7 +8,7 @@ pub returns-in_default : goal.returns-in_default
 returns-in_default c = tells_first c.instruct-r.ensures c.in_default.not-Miss
 
 pub variable-r-requires-clause-fit : goal.variable-r-requires-clause-fit
-variable-r-requires-clause-fit c = let h1 = fit_next (c.instruct-r.ensures.does []) c.requires.fit quiet_sober.0 c.in-Miss.st c.in-Miss.is in h1
+variable-r-requires-clause-fit c = fit_next (c.instruct-r.ensures.does []) c.requires.fit quiet_sober.0 c.in-Miss.st c.in-Miss.is
 
 pub returns-in_default-r : goal.returns-in_default-r
 returns-in_default-r c = tells_next c.instruct-r.ensures c.in-Miss.st c.in-Miss.is (tells_first c.variable-r.ensures c.in_default-r.not-Miss)
@@ -16,7 +16,7 @@ returns-in_default-r c = tells_next c.instruct-r.ensures c.in-Miss.st c.in-Miss.
 pub constant-r-requires-clause-fit : goal.constant-r-requires-clause-fit
 constant-r-requires-clause-fit c =
     let h1 = fit_next (c.instruct-r.ensures.does []) c.requires.fit quiet_sober.0 c.in-Miss.st c.in-Miss.is in
-    let h2 = fit_next (c.variable-r.ensures.does []) h1 quiet_sober.1 c.in-Miss-r.st c.in-Miss-r.is in h2
+    fit_next (c.variable-r.ensures.does []) h1 quiet_sober.1 c.in-Miss-r.st c.in-Miss-r.is
 
 pub returns-in_default-r-2 : goal.returns-in_default-r-2
 returns-in_default-r-2 c =

@@ -8,7 +8,7 @@ pub returns-in_default : goal.returns-in_default
 returns-in_default c = tells_first c.text-r.ensures c.in_default.not-Miss
 
 pub file-requires-clause-fit : goal.file-requires-clause-fit
-file-requires-clause-fit c = let h1 = fit_next (c.text-r.ensures.does []) c.requires.fit quiet_sober.5 c.in-Miss.st c.in-Miss.is in h1
+file-requires-clause-fit c = fit_next (c.text-r.ensures.does []) c.requires.fit quiet_sober.5 c.in-Miss.st c.in-Miss.is
 
 pub returns : goal.returns
 returns c = tells_next c.text-r.ensures c.in-Miss.st c.in-Miss.is (leaf_tells c.file.ensures)

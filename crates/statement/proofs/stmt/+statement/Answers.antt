@@ -143,7 +143,7 @@ pub fourth-returns-in_default : goal.fourth-returns-in_default
 fourth-returns-in_default t c = fourth_is (does_first c.import-r.ensures c.in_default.not-Miss)
 
 pub fourth-texts-r-requires-clause-fit : goal.fourth-texts-r-requires-clause-fit
-fourth-texts-r-requires-clause-fit t c = let h1 = fit_next c.import-r.ensures c.requires.fit fourth_sober.0 c.in-Miss.st c.in-Miss.is in h1
+fourth-texts-r-requires-clause-fit t c = fit_next c.import-r.ensures c.requires.fit fourth_sober.0 c.in-Miss.st c.in-Miss.is
 
 pub fourth-returns-in_default-r : goal.fourth-returns-in_default-r
 fourth-returns-in_default-r t c =
@@ -332,7 +332,7 @@ pub second-returns-in_default : goal.second-returns-in_default
 second-returns-in_default t c = second_is (does_first c.macro_of-r.ensures c.in_default.not-Miss)
 
 pub second-calls-r-requires-clause-fit : goal.second-calls-r-requires-clause-fit
-second-calls-r-requires-clause-fit t c = let h1 = fit_next c.macro_of-r.ensures c.requires.fit second_sober.0 c.in-Miss.st c.in-Miss.is in h1
+second-calls-r-requires-clause-fit t c = fit_next c.macro_of-r.ensures c.requires.fit second_sober.0 c.in-Miss.st c.in-Miss.is
 
 pub second-returns-in_default-r : goal.second-returns-in_default-r
 second-returns-in_default-r t c =
@@ -378,7 +378,7 @@ statement-returns-in_default-r t c =
 pub statement-instructions-r-requires-clause-fit : goal.statement-instructions-r-requires-clause-fit
 statement-instructions-r-requires-clause-fit t c =
     let h1 = fit_next c.braces-r.ensures c.requires first_sober.0 c.in-Miss.st c.in-Miss.is in
-    let h2 = fit_next c.label-r.ensures h1 first_sober.1 c.in-Miss-r.st c.in-Miss-r.is in h2
+    fit_next c.label-r.ensures h1 first_sober.1 c.in-Miss-r.st c.in-Miss-r.is
 
 pub statement-returns-in_default-r-2 : goal.statement-returns-in_default-r-2
 statement-returns-in_default-r-2 t c =
@@ -414,7 +414,7 @@ third-returns-in_default-r t c =
 pub third-align-r-requires-clause-fit : goal.third-align-r-requires-clause-fit
 third-align-r-requires-clause-fit t c =
     let h1 = fit_next (loop_is c.directive-r.ensures) c.requires.fit third_sober.0 c.in-Miss.st c.in-Miss.is in
-    let h2 = fit_next (if_is c.directive-r-2.ensures) h1 third_sober.1 c.in-Miss-r.st c.in-Miss-r.is in h2
+    fit_next (if_is c.directive-r-2.ensures) h1 third_sober.1 c.in-Miss-r.st c.in-Miss-r.is
 
 pub third-returns-in_default-r-2 : goal.third-returns-in_default-r-2
 third-returns-in_default-r-2 t c =

@@ -8,7 +8,7 @@ pub marks-init : goal.marks-init
 marks-init c = (omega arith, left_all _ _)
 
 pub loop-i-preserved : goal.loop-i-preserved
-loop-i-preserved c = (omega arith, omega arith, c.loop-i.invariant.2 ∙ left_step _ _ _ c.if-s-i.false ∙ left_plain _ _ _ _ (not-true _ c.if-not-b.true-raw))
+loop-i-preserved c = (omega arith, omega arith, c.loop-i.invariant.2 ∙ left_step _ _ _ c.if-s-i.false ∙ left_plain _ _ _ _ c.if-not-b.true)
 
 pub marks-preserved-else-open-eq0 : goal.marks-preserved-else-open-eq0
 marks-preserved-else-open-eq0 c = (
