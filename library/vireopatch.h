@@ -1,7 +1,7 @@
 /*
  * Vireopatch: reads MOS assembly source into flat tables.
  *
- * C99. Link libvireopatch.a, which `rt lib` in crates/vireopatch writes; it wants memset and nothing else. The functions are written in Rattle, and
+ * C99. Link libvireopatch.a, which `rt lib --cpu=x86-64` in crates/vireopatch writes; it wants memset and nothing else. The functions are written in Rattle, and
  * each is proved to meet its contract (crates/vireopatch/src/lib.rt). The gate compares the constants here with the crates', and runs the
  * examples; nothing proves a declaration.
  *

@@ -1,4 +1,4 @@
-//! Links libvireopatch.a: from the folder that VIREOPATCH_LIB names, or from where `rt lib` in crates/vireopatch puts it.
+//! Links libvireopatch.a: from the folder that VIREOPATCH_LIB names, or from where `rt lib --cpu=x86-64` in crates/vireopatch puts it.
 
 use std::path::PathBuf;
 
@@ -12,7 +12,7 @@ fn main() {
     let archive = folder.join("libvireopatch.a");
     if !archive.exists() {
         panic!(
-            "{} is not there: run `rt lib` in crates/vireopatch, or set VIREOPATCH_LIB",
+            "{} is not there: run `rt lib --cpu=x86-64` in crates/vireopatch, or set VIREOPATCH_LIB",
             archive.display()
         );
     }
