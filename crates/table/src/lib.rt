@@ -7,11 +7,11 @@
 ghost use Rattle.std.specs.Prelude.{◌≡◌, ◌++◌, ℕ, ◌+◌, ◌*◌, ◌-◌, ◌^◌, ◌≤◌, ◌<◌, length, take};
 ghost use Rattle.reading.specs.Table.{zeros, row_width, error_width, request_width};
 ghost use Rattle.reading.specs.Walk.{walk};
+ghost use Rattle.table.specs.Kinds.{kind_number};
 ghost use Rattle.table.specs.Words.{pushed, replaced, row_record, error_record, request_record};
 ghost use Rattle.table.specs.Answers.{told};
 
 pub mod column;
-pub mod kind;
 
 // A byte's place in the text, the Rust's Pos.
 #[derive(Clone, Copy)]
@@ -20,6 +20,70 @@ pub struct Pos(pub usize);
 // A row's number, counted from 0.
 #[derive(Clone, Copy)]
 pub struct RowIndex(pub usize);
+
+// The kinds of rows: the cases of Token, of ExpressionFactor, and the other Located values, in the order of ast.rs. A row has the number.
+#[derive(Clone, Copy)]
+pub enum Kind {
+    Align = 1,
+    Assert,
+    Braces,
+    Config,
+    ConfigPair,
+    Data,
+    Definition,
+    Eof,
+    Error,
+    Expression,
+    If,
+    Import,
+    File,
+    Instruction,
+    Label,
+    Loop,
+    MacroDefinition,
+    MacroInvocation,
+    ProgramCounterDefinition,
+    Segment,
+    Test,
+    Text,
+    Trace,
+    VariableDefinition,
+    Block = 30,
+    Operand,
+    String,
+    Binary,
+    Factor,
+    CurrentPc,
+    Parens,
+    Call,
+    Identifier,
+    Number,
+    StringFactor,
+    Char,
+    Word,
+    Name,
+    Path,
+    Piece,
+    Mnemonic,
+    Register,
+    Operator,
+    NumberType,
+    NumberText,
+    Modifier,
+    DataSize,
+    VariableType,
+    Encoding,
+    ImportArgument,
+    ConfigValue,
+}
+
+impl Kind {
+    pub fn number(self) -> u32
+        ensures { result ≡ kind_number self }
+    {
+        self as u32
+    }
+}
 
 // The words of a record.
 pub const ROW: usize = 7;
@@ -33,19 +97,19 @@ pub const REQUEST: usize = 2;
 pub fn push_row(
     rows: &mut [u32],
     n: RowIndex,
-    kind: usize,
+    kind: Kind,
     size: usize,
     tlow: Pos,
     low: Pos,
     high: Pos,
     detail: usize,
 )
-    requires { (n.0 < 2 ^ 32) × (kind < 2 ^ 32) × (size < 2 ^ 32) × (tlow.0 < 2 ^ 32) × (low.0 < 2 ^ 32) × (high.0 < 2 ^ 32) × (detail < 2 ^ 32) }
-    ensures { rows.new ≡ pushed row_width rows.old n.0 (row_record kind size tlow.0 low.0 high.0 detail) }
+    requires { (n.0 < 2 ^ 32) × (size < 2 ^ 32) × (tlow.0 < 2 ^ 32) × (low.0 < 2 ^ 32) × (high.0 < 2 ^ 32) × (detail < 2 ^ 32) }
+    ensures { rows.new ≡ pushed row_width rows.old n.0 (row_record (kind_number kind) size tlow.0 low.0 high.0 detail) }
 {
     let i = n.0 * ROW;
     if i + ROW <= rows.len() {
-        rows[i] = kind as u32;
+        rows[i] = kind.number();
         rows[i + column::SIZE] = size as u32;
         rows[i + column::TLOW] = tlow.0 as u32;
         rows[i + column::LOW] = low.0 as u32;
