@@ -2,12 +2,9 @@
 use mathlib.Core.Path.{◌≡◌, refl, ap, ap₂, sym, subst, ◌∙◌}
 use mathlib.Core.Bool.{Bool, true, false, ◌||◌, or_assoc}
 use mathlib.Core.List.{List, [], ◌∷◌, ◌++◌, append-nil, append_assoc}
-use mathlib.Core.Logic.{⊎_elim}
 use Prim.Native.Nat.{ℕ, suc, ◌+◌, ◌≤◌, ◌<◌, max}
 use native.Mathlib.Omega.{arith}
 use borrow.Author.Tests.{lt-ltb, le-ltb, ltb-true, ltb-false}
-use types.Run.{OneOf}
-use denote.Enum.Declared.{tag_of}
 use lib.Dec.{ltb}
 use lib.ListN.{length, length-append}
 use Rattle.reading.specs.Grammar.{Row, Rows, Input, placed}
@@ -17,14 +14,14 @@ use Rattle.table.specs.Words.{HoldsRows, pushed, replaced, record_of}
 use Rattle.cursor.specs.Text.{here, cursor}
 use Rattle.cursor.specs.Agree.{deep_or, answer_of, rows_of, peak_of, Agrees}
 use Rattle.cursor.specs.declared.Cursor.{Cursor}
-use Rattle.cursor.specs.declared.Read.{Read}
-use Rattle.cursor.specs.declared.Read.TheVariants.{Got, Miss, Deep}
-use Rattle.cursor.specs.contracts.Read.{the_type}
+use Rattle.cursor.specs.Read.{Read}
 use Rattle.table.proofs.Holds.{holds_push, holds_prefix, holds_place}
+use Rattle.cursor.specs.declared.Stop.TheVariants.{Miss, Deep}
+use Rattle.std.specs.Prelude.{Ok, Err, IsErr, is_err}
 
 -- Answers ------------------------------------------------------------------
 
--- what a Got, a Miss and a Deep say of the summary
+-- what a cursor and a miss say of the summary
 pub record Found (o : Summary Rows) (lim : ℕ) (met : Bool) (base : ℕ) (d : Cursor) : Type 0 where
   pub v : Rows
   pub q : Input
@@ -43,42 +40,34 @@ pub record Lost (o : Summary Rows) (lim : ℕ) (met m : Bool) : Type 0 where
   pub low : k ≤ lim
   pub noted : m ≡ met || b
 
-got_is : (d e : Cursor) → Got d ≡ Got e → d ≡ e
+got_is : (d e : Cursor) → ◌≡◌ {A = Read} (Ok d) (Ok e) → d ≡ e
 got_is d e h = cc
 
-miss_is : (m k : Bool) → Miss m ≡ Miss k → m ≡ k
+miss_is : (m k : Bool) → ◌≡◌ {A = Read} (Err (Miss m)) (Err (Miss k)) → m ≡ k
 miss_is m k h = cc
 
-pub got_deep : (d : Cursor) → Got d ≡ Deep → ⊥
+pub got_deep : (d : Cursor) → ◌≡◌ {A = Read} (Ok d) (Err Deep) → ⊥
 got_deep d h = let z : ◌≡◌ {A = ℕ} 0 1 = cc in omega arith
 
-pub got_miss : (d : Cursor) (m : Bool) → Got d ≡ Miss m → ⊥
+pub got_miss : (d : Cursor) (m : Bool) → ◌≡◌ {A = Read} (Ok d) (Err (Miss m)) → ⊥
 got_miss d m h = let z : ◌≡◌ {A = ℕ} 0 1 = cc in omega arith
 
-pub miss_deep : (m : Bool) → Miss m ≡ Deep → ⊥
+pub miss_deep : (m : Bool) → ◌≡◌ {A = Read} (Err (Miss m)) (Err Deep) → ⊥
 miss_deep m h = let z : ◌≡◌ {A = ℕ} 0 1 = cc in omega arith
 
--- an answer that is known by its tag
-pub not_got : (r : Read) → OneOf (1 ∷ 2 ∷ []) (tag_of the_type r) → (d : Cursor) → r ≡ Got d → ⊥
-not_got r h d e =
-    ⊎_elim (λ (x : 0 ≡ 1). let z : ⊥ = omega arith in z) (λ (x : 0 ≡ 2). let z : ⊥ = omega arith in z)
-    (subst (λ (x : Read). OneOf (1 ∷ 2 ∷ []) (tag_of the_type x)) e h)
-
-pub not_miss : (r : Read) → OneOf (0 ∷ 2 ∷ []) (tag_of the_type r) → (m : Bool) → r ≡ Miss m → ⊥
-not_miss r h m e =
-    ⊎_elim (λ (x : 1 ≡ 0). let z : ⊥ = omega arith in z) (λ (x : 1 ≡ 2). let z : ⊥ = omega arith in z)
-    (subst (λ (x : Read). OneOf (0 ∷ 2 ∷ []) (tag_of the_type x)) e h)
+pub got_err : {r : Read} {d : Cursor} → r ≡ Ok d → IsErr r → ⊥
+got_err q h = let z : ◌≡◌ {A = Bool} false true = sym (ap is_err q) ∙ h in cc
 
 module _ (lim : ℕ) (met : Bool) (base : ℕ) where
   -- the answers within the limit
   abbrev got_at : Rows → Input → Bool → Read
-  got_at v q b = Got (cursor q.at (base + length v) (met || b))
+  got_at v q b = Ok (cursor q.at (base + length v) (met || b))
 
-  pub found : (o : Summary Rows) (d : Cursor) → Got d ≡ answer_of lim met base o → Found o lim met base d
+  pub found : (o : Summary Rows) (d : Cursor) → Ok d ≡ answer_of lim met base o → Found o lim met base d
   unfolding answer_of
   found (fits v q b k) d h = go (ltb lim k) refl h
     where
-      go : (x : Bool) → ltb lim k ≡ x → Got d ≡ deep_or x (got_at v q b) → Found (fits v q b k) lim met base d
+      go : (x : Bool) → ltb lim k ≡ x → Ok d ≡ deep_or x (got_at v q b) → Found (fits v q b k) lim met base d
       go true e z = absurd (got_deep d z)
       go false e z =
           let g = got_is d _ z in
@@ -95,44 +84,44 @@ module _ (lim : ℕ) (met : Bool) (base : ℕ) where
           }
   found (fails b k) d h = absurd (go (ltb lim k) h)
     where
-      go : (x : Bool) → Got d ≡ deep_or x (Miss (met || b)) → ⊥
+      go : (x : Bool) → Ok d ≡ deep_or x (Err (Miss (met || b))) → ⊥
       go true z = got_deep d z
       go false z = got_miss d _ z
 
-  pub lost : (o : Summary Rows) (m : Bool) → Miss m ≡ answer_of lim met base o → Lost o lim met m
+  pub lost : (o : Summary Rows) (m : Bool) → Err (Miss m) ≡ answer_of lim met base o → Lost o lim met m
   unfolding answer_of
   lost (fits v q b k) m h = absurd (go (ltb lim k) h)
     where
-      go : (x : Bool) → Miss m ≡ deep_or x (got_at v q b) → ⊥
+      go : (x : Bool) → Err (Miss m) ≡ deep_or x (got_at v q b) → ⊥
       go true z = miss_deep m z
       go false z = got_miss _ m (sym z)
   lost (fails b k) m h = go (ltb lim k) refl h
     where
-      go : (x : Bool) → ltb lim k ≡ x → Miss m ≡ deep_or x (Miss (met || b)) → Lost (fails b k) lim met m
+      go : (x : Bool) → ltb lim k ≡ x → Err (Miss m) ≡ deep_or x (Err (Miss (met || b))) → Lost (fails b k) lim met m
       go true e z = absurd (miss_deep m z)
       go false e z = record { b = b; k = k; is = refl; low = ltb-false lim k e; noted = miss_is m _ z }
 
-  pub deep : (o : Summary Rows) → Deep ≡ answer_of lim met base o → lim < peak_of o
+  pub deep : (o : Summary Rows) → Err Deep ≡ answer_of lim met base o → lim < peak_of o
   unfolding answer_of peak_of
   deep (fits v q b k) h = go (ltb lim k) refl h
     where
-      go : (x : Bool) → ltb lim k ≡ x → Deep ≡ deep_or x (got_at v q b) → lim < k
+      go : (x : Bool) → ltb lim k ≡ x → Err Deep ≡ deep_or x (got_at v q b) → lim < k
       go true e z = ltb-true lim k e
       go false e z = absurd (got_deep _ (sym z))
   deep (fails b k) h = go (ltb lim k) refl h
     where
-      go : (x : Bool) → ltb lim k ≡ x → Deep ≡ deep_or x (Miss (met || b)) → lim < k
+      go : (x : Bool) → ltb lim k ≡ x → Err Deep ≡ deep_or x (Err (Miss (met || b))) → lim < k
       go true e z = ltb-true lim k e
       go false e z = absurd (miss_deep _ (sym z))
 
   -- too deep
-  pub agrees_deep : (o : Summary Rows) {acc : Rows} {t t' : List ℕ} → lim < peak_of o → Agrees o lim met base acc t t' Deep
+  pub agrees_deep : (o : Summary Rows) {acc : Rows} {t t' : List ℕ} → lim < peak_of o → Agrees o lim met base acc t t' (Err Deep)
   unfolding answer_of peak_of
   agrees_deep o h = record { answer = go o h; table = λ k. absurd (let z : ⊥ = omega arith in z) }
     where
-      go : (o : Summary Rows) → lim < peak_of o → Deep ≡ answer_of lim met base o
+      go : (o : Summary Rows) → lim < peak_of o → Err Deep ≡ answer_of lim met base o
       go (fits v q b k) h = sym (ap (λ (x : Bool). deep_or x (got_at v q b)) (lt-ltb lim k h))
-      go (fails b k) h = sym (ap (λ (x : Bool). deep_or x (Miss (met || b))) (lt-ltb lim k h))
+      go (fails b k) h = sym (ap (λ (x : Bool). deep_or x (Err (Miss (met || b)))) (lt-ltb lim k h))
 
 -- Steps --------------------------------------------------------------------
 
@@ -155,33 +144,33 @@ unfolding answer_of peak_of rows_of
 agrees_more (fits v q b k) {lim} {met} {base} m p h a =
     record {
       answer = a.answer
-          ∙ ap₂ (λ (x y : Bool). deep_or x (Got (cursor q.at (base + length v) y))) (sym (same_side lim p k h)) (or_assoc met m b);
+          ∙ ap₂ (λ (x y : Bool). deep_or x (Ok (cursor q.at (base + length v) y))) (sym (same_side lim p k h)) (or_assoc met m b);
       table = λ z. a.table (omega arith);
     }
 agrees_more (fails b k) {lim} {met} {base} m p h a =
     record {
-      answer = a.answer ∙ ap₂ (λ (x y : Bool). deep_or x (Miss y)) (sym (same_side lim p k h)) (or_assoc met m b);
+      answer = a.answer ∙ ap₂ (λ (x y : Bool). deep_or x (Err (Miss y))) (sym (same_side lim p k h)) (or_assoc met m b);
       table = λ z. a.table (omega arith);
     }
 
 -- the rows are read: those collected are the value
 pub agrees_ok : (v : Rows) (q : Input) (lim : ℕ) (met : Bool) (base : ℕ) (t : List ℕ) (b : Bool) (k n : ℕ) (m : Bool)
-    → k ≤ lim → n ≡ base + length v → m ≡ met || b → Agrees (fits v q b k) lim met base v t t (Got (cursor q.at n m))
+    → k ≤ lim → n ≡ base + length v → m ≡ met || b → Agrees (fits v q b k) lim met base v t t (Ok (cursor q.at n m))
 unfolding answer_of rows_of
 agrees_ok v q lim met base t b k n m h e f =
     record {
-      answer = ap₂ {C = Read} (λ (i : ℕ) (x : Bool). Got (cursor q.at i x)) e f
-          ∙ sym (ap (λ (x : Bool). deep_or x (Got (cursor q.at (base + length v) (met || b)))) (le-ltb lim k h));
+      answer = ap₂ {C = Read} (λ (i : ℕ) (x : Bool). Ok (cursor q.at i x)) e f
+          ∙ sym (ap (λ (x : Bool). deep_or x (Ok (cursor q.at (base + length v) (met || b)))) (le-ltb lim k h));
       table = λ z pre y g. g;
     }
 
 -- it does not fit: the rows collected are given up
 pub agrees_err : (lim : ℕ) (met : Bool) (base : ℕ) (acc : Rows) (t : List ℕ) (b : Bool) (k : ℕ) (m : Bool)
-    → k ≤ lim → m ≡ met || b → Agrees (fails b k) lim met base acc t t (Miss m)
+    → k ≤ lim → m ≡ met || b → Agrees (fails b k) lim met base acc t t (Err (Miss m))
 unfolding answer_of rows_of
 agrees_err lim met base acc t b k m h f =
     record {
-      answer = ap Miss f ∙ sym (ap (λ (x : Bool). deep_or x (Miss (met || b))) (le-ltb lim k h));
+      answer = ap (λ (x : Bool). Err (Miss x)) f ∙ sym (ap (λ (x : Bool). deep_or x (Err (Miss (met || b)))) (le-ltb lim k h));
       table = λ z pre y g. rw append-nil (holds_prefix t pre acc g);
     }
 
@@ -212,7 +201,7 @@ unfolding answer_of rows_of peak_of
 agrees_with (fits v q b k) {lim} {met} {base} acc {n} {t} {t'} e a =
     record {
       answer = a.answer
-          ∙ ap (λ (i : ℕ). deep_or (ltb lim k) (Got (cursor q.at i (met || b))))
+          ∙ ap (λ (i : ℕ). deep_or (ltb lim k) (Ok (cursor q.at i (met || b))))
           (let z : n + length v ≡ base + length (acc ++ v) = omega (arith, length-append acc v) in z);
       table = λ h pre z g.
           let y : HoldsRows t' ((pre ++ acc) ++ v) = a.table h (pre ++ acc) (omega (arith, length-append pre acc)) (rw append-nil g) in
@@ -277,7 +266,7 @@ agrees_found s {o} {lim} {met} {base} acc {n} {t} {t₁} {t'} {r₁} {r} {d} f e
 
 pub agrees_got : (s : List ℕ) {o : Summary Rows} {lim : ℕ} {met : Bool} {base : ℕ} (acc : Rows) {n : ℕ} {t t₁ t' : List ℕ} {r₁ r : Read} (d : Cursor)
     (f : Rows → Input → Summary Rows)
-    → n ≡ base + length acc → Lies s o → Agrees o lim met n [] t t₁ r₁ → r₁ ≡ Got d
+    → n ≡ base + length acc → Lies s o → Agrees o lim met n [] t t₁ r₁ → r₁ ≡ Ok d
     → ((v : Rows) (b : Bool) (k : ℕ) → o ≡ fits v (here s d.at.0) b k → d.count.0 ≡ base + length (acc ++ v)
     → Agrees (f v (here s d.at.0)) lim d.met base (acc ++ v) t₁ t' r)
     → Agrees (thenˢ o f) lim met base acc t t' r
@@ -287,7 +276,7 @@ agrees_got s {o} {lim} {met} acc {n} d f e lie a u g =
 
 -- a callee that read nothing leaves the rows that were there
 pub kept : {o : Summary Rows} {lim : ℕ} {met : Bool} {base : ℕ} (acc : Rows) {n : ℕ} {t t₁ : List ℕ} {r₁ : Read} (m : Bool)
-    → n ≡ base + length acc → Agrees o lim met n [] t t₁ r₁ → r₁ ≡ Miss m
+    → n ≡ base + length acc → Agrees o lim met n [] t t₁ r₁ → r₁ ≡ Err (Miss m)
     → (pre : Rows) → length pre ≡ base → HoldsRows t (pre ++ acc) → HoldsRows t₁ (pre ++ acc)
 unfolding rows_of peak_of
 kept {o} {lim} {met} {base} acc {n} {t} {t₁} m e a q pre z x = go (lost lim met n o m (sym q ∙ a.answer))
@@ -308,22 +297,22 @@ agrees_kept acc keep a = record { answer = a.answer; table = λ u pre z x. a.tab
 
 -- a callee that read nothing, or went too deep, is the end of the reading
 pub agrees_out : {o : Summary Rows} {lim : ℕ} {met : Bool} {base : ℕ} (acc : Rows) {n : ℕ} {t t₁ : List ℕ} {r₁ : Read} (f : Rows → Input → Summary Rows)
-    → n ≡ base + length acc → Agrees o lim met n [] t t₁ r₁ → ((d : Cursor) → r₁ ≡ Got d → ⊥) → Agrees (thenˢ o f) lim met base acc t t₁ r₁
+    → n ≡ base + length acc → Agrees o lim met n [] t t₁ r₁ → IsErr r₁ → Agrees (thenˢ o f) lim met base acc t t₁ r₁
 agrees_out {o} {lim} {met} {base} acc {n} {t} {t₁} {r₁} f e a h = go r₁ refl
   where
-    missed : (m : Bool) → r₁ ≡ Miss m → Lost o lim met m → Agrees (thenˢ o f) lim met base acc t t₁ (Miss m)
+    missed : (m : Bool) → r₁ ≡ Err (Miss m) → Lost o lim met m → Agrees (thenˢ o f) lim met base acc t t₁ (Err (Miss m))
     missed m q g =
         agrees_is (ap (λ o. thenˢ o f) g.is)
         (agrees_kept acc (kept acc m e a q) (agrees_err lim met base acc t₁ g.b g.k m g.low g.noted))
 
     go : (r : Read) → r₁ ≡ r → Agrees (thenˢ o f) lim met base acc t t₁ r
-    go (Got d) q = absurd (h d q)
-    go (Miss m) q = missed m q (lost lim met n o m (sym q ∙ a.answer))
-    go Deep q = agrees_deep lim met base (thenˢ o f) (omega (arith, deep lim met n o (sym q ∙ a.answer), peak_then o f))
+    go (Ok d) q = absurd (got_err q h)
+    go (Err (Miss m)) q = missed m q (lost lim met n o m (sym q ∙ a.answer))
+    go (Err Deep) q = agrees_deep lim met base (thenˢ o f) (omega (arith, deep lim met n o (sym q ∙ a.answer), peak_then o f))
 
 -- the first attempt read nothing, and the second goes on with the table that it left
 pub agrees_or : {o : Summary Rows} (f : Unit {0} → Summary Rows) {lim : ℕ} {met : Bool} {base : ℕ} (acc : Rows) {n : ℕ} {t t₁ t' : List ℕ} {r₁ r : Read}
-    (m : Bool) → n ≡ base + length acc → Agrees o lim met n [] t t₁ r₁ → r₁ ≡ Miss m → Agrees (f tt) lim m base acc t₁ t' r
+    (m : Bool) → n ≡ base + length acc → Agrees o lim met n [] t t₁ r₁ → r₁ ≡ Err (Miss m) → Agrees (f tt) lim m base acc t₁ t' r
     → Agrees (elseˢ o f) lim met base acc t t' r
 agrees_or {o} f {lim} {met} {base} acc {n} {t} {t₁} {t'} {r₁} {r} m e a q b = go (lost lim met n o m (sym q ∙ a.answer))
   where
@@ -335,12 +324,12 @@ agrees_or {o} f {lim} {met} {base} acc {n} {t} {t₁} {t'} {r₁} {r} m e a q b 
 
 -- the first attempt read something, or went too deep
 pub agrees_first : {o : Summary Rows} (f : Unit {0} → Summary Rows) {lim : ℕ} {met : Bool} {base : ℕ} {acc : Rows} {t t' : List ℕ} {r : Read}
-    → Agrees o lim met base acc t t' r → ((m : Bool) → r ≡ Miss m → ⊥) → Agrees (elseˢ o f) lim met base acc t t' r
+    → Agrees o lim met base acc t t' r → ((m : Bool) → r ≡ Err (Miss m) → ⊥) → Agrees (elseˢ o f) lim met base acc t t' r
 agrees_first {o} f {lim} {met} {base} {acc} {t} {t'} {r} a h = go r refl
   where
     go : (x : Read) → r ≡ x → Agrees (elseˢ o f) lim met base acc t t' r
-    go (Got d) q = let g = found lim met base o d (sym q ∙ a.answer) in agrees_is (ap (λ o. elseˢ o f) g.is ∙ sym g.is) a
-    go (Miss m) q = absurd (h m q)
-    go Deep q =
+    go (Ok d) q = let g = found lim met base o d (sym q ∙ a.answer) in agrees_is (ap (λ o. elseˢ o f) g.is ∙ sym g.is) a
+    go (Err (Miss m)) q = absurd (h m q)
+    go (Err Deep) q =
         subst (λ (x : Read). Agrees (elseˢ o f) lim met base acc t t' x) (sym q)
         (agrees_deep lim met base (elseˢ o f) (omega (arith, deep lim met base o (sym q ∙ a.answer), peak_else o f)))

@@ -26,12 +26,13 @@ use Rattle.cursor.specs.Word.{word_or, first_word}
 use Rattle.cursor.specs.Agree.{full, peak_of, Agrees, Reading, Reads, Leafs, Ready}
 use Rattle.cursor.specs.declared.Cursor.{Cursor}
 use Rattle.cursor.specs.declared.Skip.{Skip}
-use Rattle.cursor.specs.declared.Read.{Read}
-use Rattle.cursor.specs.declared.Read.TheVariants.{Got, Miss, Deep}
+use Rattle.cursor.specs.Read.{Read}
 use Rattle.cursor.proofs.Agree.{Found, found, lost, deep, agrees_deep, agrees_is, agrees_more, agrees_ok, agrees_err, agrees_push, agrees_place}
 use Rattle.cursor.proofs.Agree.{agrees_with, peak_more, Lies, agrees_got, agrees_out, agrees_or, agrees_first}
 use Rattle.cursor.proofs.Places.{behind_here}
 use Rattle.cursor.proofs.Lows.{First}
+use Rattle.cursor.specs.declared.Stop.TheVariants.{Miss, Deep}
+use Rattle.std.specs.Prelude.{Ok, Err, IsErr}
 
 -- What is known of every reading ---------------------------------------------
 
@@ -60,7 +61,7 @@ pub record Moved (c : Cost) (s : List ℕ) (i n : ℕ) (d : Cursor) : Type 0 whe
   pub rows : d.count.0 + c.gain + 4 * i ≤ 4 * d.at.0 + c.debt + n
 
 pub moved : (g : Parser) → T (quiet g) → T (slim g) → {s : List ℕ} {l i lim : ℕ} {met : Bool} {n : ℕ} {t t' : List ℕ} {r : Read} (d : Cursor)
-    → i ≤ length s → Reading g s l lim i met n t t' r → r ≡ Got d → Moved (cost g) s i n d
+    → i ≤ length s → Reading g s l lim i met n t t' r → r ≡ Ok d → Moved (cost g) s i n d
 unfolding full
 moved g u w {s} {l} {i} {lim} {met} {n} d h a e = go (found lim met n (scan (full s) g l (here s i)) d (sym e ∙ a.agrees.answer))
   where
@@ -90,7 +91,7 @@ pub record Stepped (s : List ℕ) (i n : ℕ) (d : Cursor) : Type 0 where
   pub rows : d.count.0 + 4 * i ≤ 4 * d.at.0 + n
 
 pub stepped : {g : Parser} → Solid g → {s : List ℕ} {l i lim : ℕ} {met : Bool} {n : ℕ} {t t' : List ℕ} {r : Read} (d : Cursor)
-    → i ≤ length s → Reading g s l lim i met n t t' r → r ≡ Got d → Stepped s i n d
+    → i ≤ length s → Reading g s l lim i met n t t' r → r ≡ Ok d → Stepped s i n d
 stepped {g} c {s} {l} {i} {lim} {met} {n} d h a e =
     let m = moved g c.quieted c.slimmed d h a e in
     let f = found lim met n (scan (full s) g l (here s i)) d (sym e ∙ a.agrees.answer) in
@@ -101,7 +102,7 @@ stepped {g} c {s} {l} {i} {lim} {met} {n} d h a e =
 
 -- so the next reader may be called where this one ended
 pub ready_on : {g : Parser} → Solid g → {s : List ℕ} {c : Cursor} {left : ℕ} {t t' : List ℕ} {r : Read} (d : Cursor) {k : ℕ}
-    → Ready k s c → Reads g s c left t t' r → r ≡ Got d → Ready k s d
+    → Ready k s c → Reads g s c left t t' r → r ≡ Ok d → Ready k s d
 ready_on ok d h a e =
     let x = stepped ok d h.within (a.reading 0) e in
     record { small = h.small; within = x.within; few = omega (arith, x.rows, h.few) }
@@ -127,7 +128,7 @@ reading_is e a = record { agrees = agrees_is e a.agrees }
 pub reads_leaf : {g : Parser} {s : List ℕ} {c : Cursor} {t t' : List ℕ} {r : Read} (left : ℕ) → Leafs g s c t t' r → Reads g s c left t t' r
 reads_leaf left a = record { reading = λ l. a.reading l (l + left) }
 
-pub leaf_deep : {g : Parser} {s : List ℕ} {c : Cursor} {t t' : List ℕ} {r : Read} → Leafs g s c t t' r → r ≡ Deep → ⊥
+pub leaf_deep : {g : Parser} {s : List ℕ} {c : Cursor} {t t' : List ℕ} {r : Read} → Leafs g s c t t' r → r ≡ Err Deep → ⊥
 leaf_deep {g} {s} {c} a e =
     let o = scan (full s) g 0 (here s c.at.0) in
     let z = deep (peak_of o) c.met c.count.0 o (sym e ∙ (a.reading 0 (peak_of o)).agrees.answer) in
@@ -136,23 +137,23 @@ leaf_deep {g} {s} {c} a e =
 
 -- what has no rows, from its summary
 module _ (g : Parser) (s : List ℕ) (l lim i : ℕ) (met : Bool) (base : ℕ) (t : List ℕ) (b : Bool) (m : Bool) (h : m ≡ met || b) where
-  pub bare_got : (e : ℕ) → scan (full s) g l (here s i) ≡ fits [] (here s e) b 0 → Reading g s l lim i met base t t (Got (cursor e base m))
+  pub bare_got : (e : ℕ) → scan (full s) g l (here s i) ≡ fits [] (here s e) b 0 → Reading g s l lim i met base t t (Ok (cursor e base m))
   bare_got e p = record { agrees = agrees_is p (agrees_ok [] (here s e) lim met base t b 0 base m (omega arith) (omega arith) h) }
 
-  pub bare_no : scan (full s) g l (here s i) ≡ fails b 0 → Reading g s l lim i met base t t (Miss m)
+  pub bare_no : scan (full s) g l (here s i) ≡ fails b 0 → Reading g s l lim i met base t t (Err (Miss m))
   bare_no p = record { agrees = agrees_is p (agrees_err lim met base [] t b 0 m (omega arith) h) }
 
-pub empty_is : (s : List ℕ) (l lim i : ℕ) (met : Bool) (base : ℕ) (t : List ℕ) → Reading empty s l lim i met base t t (Got (cursor i base met))
+pub empty_is : (s : List ℕ) (l lim i : ℕ) (met : Bool) (base : ℕ) (t : List ℕ) → Reading empty s l lim i met base t t (Ok (cursor i base met))
 empty_is s l lim i met base t = bare_got empty s l lim i met base t false met (sym (or-false met)) i refl
 
 -- Sequence and alternatives --------------------------------------------------
 
 module _ {m : Parser} {s : List ℕ} {l lim i : ℕ} {met : Bool} {base : ℕ} {t t₁ : List ℕ} {r₁ : Read}
     (a : Reading m s l lim i met base t t₁ r₁) (n : Parser) where
-  pub seq_out : ((d : Cursor) → r₁ ≡ Got d → ⊥) → Reading (m ▸ n) s l lim i met base t t₁ r₁
+  pub seq_out : IsErr r₁ → Reading (m ▸ n) s l lim i met base t t₁ r₁
   seq_out h = record { agrees = agrees_out [] (λ v q. withˢ (v ++◌) (scan (full s) n l q)) (omega arith) a.agrees h }
 
-  pub seq_got : T (quiet m) → (d : Cursor) → r₁ ≡ Got d → {t' : List ℕ} {r : Read}
+  pub seq_got : T (quiet m) → (d : Cursor) → r₁ ≡ Ok d → {t' : List ℕ} {r : Read}
       → Reading n s l lim d.at.0 d.met d.count.0 t₁ t' r → Reading (m ▸ n) s l lim i met base t t' r
   seq_got u d e b =
       record {
@@ -160,19 +161,19 @@ module _ {m : Parser} {s : List ℕ} {l lim i : ℕ} {met : Bool} {base : ℕ} {
             λ v x k p c. agrees_with (scan (full s) n l (here s d.at.0)) v c b.agrees;
       }
 
-  pub or_miss : (x : Bool) → r₁ ≡ Miss x → {t' : List ℕ} {r : Read}
+  pub or_miss : (x : Bool) → r₁ ≡ Err (Miss x) → {t' : List ℕ} {r : Read}
       → Reading n s l lim i x base t₁ t' r → Reading (m or n) s l lim i met base t t' r
   or_miss x e b = record { agrees = agrees_or (λ u. scan (full s) n l (here s i)) [] x (omega arith) a.agrees e b.agrees }
 
-  pub or_first : ((x : Bool) → r₁ ≡ Miss x → ⊥) → Reading (m or n) s l lim i met base t t₁ r₁
+  pub or_first : ((x : Bool) → r₁ ≡ Err (Miss x) → ⊥) → Reading (m or n) s l lim i met base t t₁ r₁
   or_first h = record { agrees = agrees_first (λ u. scan (full s) n l (here s i)) a.agrees h }
 
 -- one or none
 module _ {m : Parser} {s : List ℕ} {l lim i : ℕ} {met : Bool} {base : ℕ} {t t₁ : List ℕ} {r₁ : Read} (a : Reading m s l lim i met base t t₁ r₁) where
-  pub opt_miss : (x : Bool) → r₁ ≡ Miss x → Reading (opt m) s l lim i met base t t₁ (Got (cursor i base x))
+  pub opt_miss : (x : Bool) → r₁ ≡ Err (Miss x) → Reading (opt m) s l lim i met base t t₁ (Ok (cursor i base x))
   opt_miss x e = or_miss a empty x e (empty_is s l lim i x base t₁)
 
-  pub opt_first : ((x : Bool) → r₁ ≡ Miss x → ⊥) → Reading (opt m) s l lim i met base t t₁ r₁
+  pub opt_first : ((x : Bool) → r₁ ≡ Err (Miss x) → ⊥) → Reading (opt m) s l lim i met base t t₁ r₁
   opt_first h = or_first a empty h
 
 -- not
@@ -182,7 +183,7 @@ turned_peak p (fits v q b k) = refl
 turned_peak p (fails b k) = refl
 
 module _ {m : Parser} {s : List ℕ} {l lim i : ℕ} {met : Bool} {base : ℕ} {t t₁ : List ℕ} {r₁ : Read} (a : Reading m s l lim i met base t t₁ r₁) where
-  pub never_got : T (quiet m) → (d : Cursor) → r₁ ≡ Got d → Reading (never m) s l lim i met base t t₁ (Miss d.met)
+  pub never_got : T (quiet m) → (d : Cursor) → r₁ ≡ Ok d → Reading (never m) s l lim i met base t t₁ (Err (Miss d.met))
   never_got u d e =
       let x = found lim met base (scan (full s) m l (here s i)) d (sym e ∙ a.agrees.answer) in
       let same : ◌≡◌ {A = Summary Rows} (fails x.b x.k) (fails (x.b || false) (max x.k 0)) =
@@ -193,7 +194,7 @@ module _ {m : Parser} {s : List ℕ} {l lim i : ℕ} {met : Bool} {base : ℕ} {
             λ v b k p c. agrees_err lim d.met base v t₁ false 0 d.met (omega arith) (sym (or-false d.met)));
       }
 
-  pub never_miss : (x : Bool) → r₁ ≡ Miss x → Reading (never m) s l lim i met base t t₁ (Got (cursor i base x))
+  pub never_miss : (x : Bool) → r₁ ≡ Err (Miss x) → Reading (never m) s l lim i met base t t₁ (Ok (cursor i base x))
   never_miss x e =
       let y = lost lim met base (scan (full s) m l (here s i)) x (sym e ∙ a.agrees.answer) in
       let same : fits [] (here s i) y.b y.k ≡ fits [] (here s i) (y.b || false) (max y.k 0) =
@@ -203,7 +204,7 @@ module _ {m : Parser} {s : List ℕ} {l lim i : ℕ} {met : Bool} {base : ℕ} {
             (opt_miss a x e).agrees;
       }
 
-  pub never_deep : r₁ ≡ Deep → Reading (never m) s l lim i met base t t₁ Deep
+  pub never_deep : r₁ ≡ Err Deep → Reading (never m) s l lim i met base t t₁ (Err Deep)
   never_deep e =
       let o = scan (full s) m l (here s i) in
       let h = deep lim met base o (sym e ∙ a.agrees.answer) in
@@ -236,7 +237,7 @@ seq_skip {s = s} {x = x} k {n} {l} a =
 row_pushed : (k i j e : ℕ) (v : Rows) (s : List ℕ) (d : Cursor) (lim base : ℕ) (t : List ℕ) (y : ℕ)
     → d.count.0 ≡ base + length v → y + base ≡ d.count.0 + 1
     → Agrees (fits (under k e i j d.at.0 v) (here s d.at.0) false 0) lim d.met base v t
-    (pushed row_width t d.count.0 (row_record k y i j d.at.0 e)) (Got (cursor d.at.0 (d.count.0 + 1) d.met))
+    (pushed row_width t d.count.0 (row_record k y i j d.at.0 e)) (Ok (cursor d.at.0 (d.count.0 + 1) d.met))
 row_pushed k i j e v s d lim base t y c z =
     let n = d.count.0 in
     let x : Row = record { kind = k; size = suc (length v); tlow = i; low = j; high = d.at.0; detail = e } in
@@ -244,7 +245,7 @@ row_pushed k i j e v s d lim base t y c z =
     let same : suc (length v) ≡ y = omega arith in
     agrees_push v t n x c
     (subst (λ (m : ℕ). Agrees (fits (v ++ (x ∷ [])) (here s d.at.0) false 0) lim d.met base (v ++ (x ∷ [])) table
-    (pushed row_width t n (row_record k m i j d.at.0 e)) (Got (cursor d.at.0 (n + 1) d.met))) same
+    (pushed row_width t n (row_record k m i j d.at.0 e)) (Ok (cursor d.at.0 (n + 1) d.met))) same
     (agrees_ok (v ++ (x ∷ [])) (here s d.at.0) lim d.met base table false 0 (n + 1) d.met
     (omega arith) (omega (arith, length-append v (x ∷ []))) (sym (or-false d.met))))
 
@@ -259,17 +260,17 @@ module _ (k : ℕ) (f : Rows → ℕ) {w : Parser} {s : List ℕ} {i : ℕ} {met
   node_in {m} {l} a = record { agrees = agrees_skip skip l (λ _ q. thenˢ (scan (full s) m l q) (row_around k f i q.at)) a }
 
   module _ {m : Parser} {l lim base : ℕ} {t t₁ : List ℕ} {r₁ : Read} (a : Reading m s l lim x.at.0 x.met base t t₁ r₁) where
-    pub node_out : ((d : Cursor) → r₁ ≡ Got d → ⊥) → Reading (node k f w m) s l lim i met base t t₁ r₁
+    pub node_out : IsErr r₁ → Reading (node k f w m) s l lim i met base t t₁ r₁
     node_out h = node_in (agrees_out [] (row_around k f i x.at.0) (omega arith) a.agrees h)
 
     -- y rows in all; the detail e is what f says of the rows
-    pub node_got : T (quiet m) → (d : Cursor) → r₁ ≡ Got d → (y e : ℕ) → y + base ≡ d.count.0 + 1
+    pub node_got : T (quiet m) → (d : Cursor) → r₁ ≡ Ok d → (y e : ℕ) → y + base ≡ d.count.0 + 1
         → ((v : Rows) (b : Bool) (j : ℕ) → scan (full s) m l (here s x.at.0) ≡ fits v (here s d.at.0) b j → e ≡ f v)
         → Reading (node k f w m) s l lim i met base t (pushed row_width t₁ d.count.0 (row_record k y i x.at.0 d.at.0 e))
-        (Got (cursor d.at.0 (d.count.0 + 1) d.met))
+        (Ok (cursor d.at.0 (d.count.0 + 1) d.met))
     node_got u d q y e z detail =
         let t' = pushed row_width t₁ d.count.0 (row_record k y i x.at.0 d.at.0 e) in
-        let r = Got (cursor d.at.0 (d.count.0 + 1) d.met) in
+        let r = Ok (cursor d.at.0 (d.count.0 + 1) d.met) in
         node_in (agrees_got s [] d (row_around k f i x.at.0) (omega arith) (lies s m u l x.at.0) a.agrees q
         λ v b j p c.
         subst (λ (n : ℕ). Agrees (fits (under k n i x.at.0 d.at.0 v) (here s d.at.0) false 0) lim d.met base v t₁ t' r) (detail v b j p)
@@ -278,12 +279,12 @@ module _ (k : ℕ) (f : Rows → ℕ) {w : Parser} {s : List ℕ} {i : ℕ} {met
   -- what is in it has no rows
   module _ {m : Parser} {l : ℕ} (lim base : ℕ) (t : List ℕ) where
     pub flat_got : (e : ℕ) → scan (full s) m l (here s x.at.0) ≡ fits [] (here s e) false 0
-        → Reading (node k f w m) s l lim i met base t (pushed row_width t base (row_record k 1 i x.at.0 e (f []))) (Got (cursor e (base + 1) x.met))
+        → Reading (node k f w m) s l lim i met base t (pushed row_width t base (row_record k 1 i x.at.0 e (f []))) (Ok (cursor e (base + 1) x.met))
     flat_got e p =
         node_in (agrees_is (ap (λ o. thenˢ o (row_around k f i x.at.0)) p)
         (row_pushed k i x.at.0 (f []) [] s (cursor e base x.met) lim base t 1 (omega arith) (omega arith)))
 
-    pub flat_no : scan (full s) m l (here s x.at.0) ≡ fails false 0 → Reading (node k f w m) s l lim i met base t t (Miss x.met)
+    pub flat_no : scan (full s) m l (here s x.at.0) ≡ fails false 0 → Reading (node k f w m) s l lim i met base t t (Err (Miss x.met))
     flat_no p =
         node_in (agrees_is (ap (λ o. thenˢ o (row_around k f i x.at.0)) p)
         (agrees_err lim x.met base [] t false 0 x.met (omega arith) (sym (or-false x.met))))
@@ -316,12 +317,12 @@ module _ (k : ℕ) {w : Parser} {s : List ℕ} {i : ℕ} {met : Bool} {x : Skip}
 
   pub pick_got : (n d : ℕ) → first_word xs (drop x.at.0 s) ≡ some (n, d)
       → Reading (pick k w xs) s l lim i met base t (pushed row_width t base (row_record k 1 i x.at.0 (x.at.0 + n) d))
-      (Got (cursor (x.at.0 + n) (base + 1) x.met))
+      (Ok (cursor (x.at.0 + n) (base + 1) x.met))
   pick_got n d e =
       pick_in e (agrees_is (ap (λ q. fits (under k d i x.at.0 (x.at.0 + n) []) q false 0) (behind_here s x.at.0 n))
       (row_pushed k i x.at.0 d [] s (cursor (x.at.0 + n) base x.met) lim base t 1 (omega arith) (omega arith)))
 
-  pub pick_no : first_word xs (drop x.at.0 s) ≡ none → Reading (pick k w xs) s l lim i met base t t (Miss x.met)
+  pub pick_no : first_word xs (drop x.at.0 s) ≡ none → Reading (pick k w xs) s l lim i met base t t (Err (Miss x.met))
   pick_no e = pick_in e (agrees_err lim x.met base [] t false 0 x.met (omega arith) (sym (or-false x.met)))
 
 -- Rows with no span of their own ---------------------------------------------
@@ -335,12 +336,12 @@ module _ (k dt : ℕ) {m : Parser} (n : Parser) {s : List ℕ} {l lim i : ℕ} {
   over_rest v q = thenˢ (scan (full s) n l q) (over_rows v)
 
   -- the first child does not fit, or is too deep
-  pub over_out : ((d : Cursor) → r₁ ≡ Got d → ⊥) → Reading (over k dt m n) s l lim i met base t t₁ r₁
+  pub over_out : IsErr r₁ → Reading (over k dt m n) s l lim i met base t t₁ r₁
   over_out h = record { agrees = agrees_out [] over_rest (omega arith) a.agrees h }
 
-  module _ (q₁ : T (quiet m)) (d : Cursor) (e : r₁ ≡ Got d) {t₂ : List ℕ} {r₂ : Read} (b : Reading n s l lim d.at.0 d.met d.count.0 t₁ t₂ r₂) where
+  module _ (q₁ : T (quiet m)) (d : Cursor) (e : r₁ ≡ Ok d) {t₂ : List ℕ} {r₂ : Read} (b : Reading n s l lim d.at.0 d.met d.count.0 t₁ t₂ r₂) where
     -- the others do not fit, or are too deep
-    pub over_no : ((c : Cursor) → r₂ ≡ Got c → ⊥) → Reading (over k dt m n) s l lim i met base t t₂ r₂
+    pub over_no : IsErr r₂ → Reading (over k dt m n) s l lim i met base t t₂ r₂
     over_no h =
         record {
           agrees = agrees_got s [] d over_rest (omega arith) (lies s m q₁ l i) a.agrees e
@@ -348,13 +349,13 @@ module _ (k dt : ℕ) {m : Parser} (n : Parser) {s : List ℕ} {l lim i : ℕ} {
         }
 
     -- y rows in all, from the low of the first child
-    pub over_got : T (quiet n) → (c : Cursor) → r₂ ≡ Got c → (y low : ℕ) → y + base ≡ c.count.0 + 1
+    pub over_got : T (quiet n) → (c : Cursor) → r₂ ≡ Ok c → (y low : ℕ) → y + base ≡ c.count.0 + 1
         → Yields (First low) (scan (full s) m l (here s i))
         → Reading (over k dt m n) s l lim i met base t (pushed row_width t₂ c.count.0 (row_record k y i low c.at.0 dt))
-        (Got (cursor c.at.0 (c.count.0 + 1) c.met))
+        (Ok (cursor c.at.0 (c.count.0 + 1) c.met))
     over_got q₂ c e₂ y low z lows =
         let t' = pushed row_width t₂ c.count.0 (row_record k y i low c.at.0 dt) in
-        let r = Got (cursor c.at.0 (c.count.0 + 1) c.met) in
+        let r = Ok (cursor c.at.0 (c.count.0 + 1) c.met) in
         record {
           agrees = agrees_got s [] d over_rest (omega arith) (lies s m q₁ l i) a.agrees e
               λ v x j p o.
@@ -378,11 +379,11 @@ module _ {w : Parser} {s : List ℕ} {i : ℕ} {met : Bool} {x : Skip} (skip : S
   argument_in {m} {l} a = record { agrees = agrees_skip skip l (λ _ q. thenˢ (scan (full s) m l q) (placed_at i q.at)) a }
 
   module _ {m : Parser} {l lim base : ℕ} {t t₁ : List ℕ} {r₁ : Read} (a : Reading m s l lim x.at.0 x.met base t t₁ r₁) where
-    pub argument_out : ((d : Cursor) → r₁ ≡ Got d → ⊥) → Reading (argument w m) s l lim i met base t t₁ r₁
+    pub argument_out : IsErr r₁ → Reading (argument w m) s l lim i met base t t₁ r₁
     argument_out h = argument_in (agrees_out [] (placed_at i x.at.0) (omega arith) a.agrees h)
 
-    pub argument_got : T (quiet m) → T (rooted m) → (d : Cursor) → r₁ ≡ Got d → (n : ℕ) → n + 1 ≡ d.count.0
-        → Reading (argument w m) s l lim i met base t (replaced t₁ n i x.at.0 d.at.0) (Got d)
+    pub argument_got : T (quiet m) → T (rooted m) → (d : Cursor) → r₁ ≡ Ok d → (n : ℕ) → n + 1 ≡ d.count.0
+        → Reading (argument w m) s l lim i met base t (replaced t₁ n i x.at.0 d.at.0) (Ok d)
     argument_got u y d q n z =
         argument_in (agrees_got s [] d (placed_at i x.at.0) (omega arith) (lies s m u l x.at.0) a.agrees q
         λ v b j p c.
@@ -399,15 +400,15 @@ module _ (m : Parser) (left : ℕ) {w : Parser} {b : ℕ} {s : List ℕ} {l i : 
   abbrev inside : Rows → Input → Summary Rows
   inside v q = more false (suc l) (withˢ (v ++◌) (scan (full s) m (suc l) q))
 
-  pub bracket_out : ((d : Cursor) → r₁ ≡ Got d → ⊥) → Reading (bracket w b m) s l (l + left) i met base t t₁ r₁
+  pub bracket_out : IsErr r₁ → Reading (bracket w b m) s l (l + left) i met base t t₁ r₁
   bracket_out h = record { agrees = agrees_out [] inside (omega arith) a.agrees h }
 
-  module _ (u : T (quiet w)) (d : Cursor) (e : r₁ ≡ Got d) where
+  module _ (u : T (quiet w)) (d : Cursor) (e : r₁ ≡ Ok d) where
     open_lies : Lies s (scan (full s) (node charᵏ (always b) w (leaf (one (is b)))) l (here s i))
     open_lies = lies s (node charᵏ (always b) w (leaf (one (is b)))) (subst T (sym (and-true (quiet w))) u) l i
 
     -- no level is left
-    pub bracket_none : left ≡ 0 → Reading (bracket w b m) s l (l + left) i met base t t₁ Deep
+    pub bracket_none : left ≡ 0 → Reading (bracket w b m) s l (l + left) i met base t t₁ (Err Deep)
     bracket_none z =
         record {
           agrees = agrees_got s [] d inside (omega arith) open_lies a.agrees e

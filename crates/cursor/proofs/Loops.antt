@@ -21,14 +21,15 @@ use Rattle.table.specs.Words.{pushed, row_record}
 use Rattle.cursor.specs.Text.{here, cursor}
 use Rattle.cursor.specs.Agree.{full, Agrees, Reading, Reads, Leafs}
 use Rattle.cursor.specs.declared.Cursor.{Cursor}
-use Rattle.cursor.specs.declared.Read.{Read}
-use Rattle.cursor.specs.declared.Read.TheVariants.{Got, Miss, Deep}
-use Rattle.cursor.proofs.Agree.{found, found_here, lost, agrees_is, agrees_more, agrees_ok, agrees_err, agrees_push, agrees_got, agrees_found}
+use Rattle.cursor.specs.Read.{Read}
+use Rattle.cursor.proofs.Agree.{found, found_here, lost, agrees_is, agrees_more, agrees_ok, agrees_err, agrees_push, agrees_got, agrees_found, got_err}
 use Rattle.cursor.proofs.Agree.{kept, agrees_kept, agrees_out}
 use Rattle.cursor.proofs.Lows.{Low, low_root, root_under}
 use Rattle.cursor.proofs.Laws.{lies, rooted_at, moved, Solid, Stepped, stepped, seq_out, seq_got}
 use Rattle.cursor.proofs.Rounds.{with_is, Loop, left_of, left_stop, Going, going_start, Joined, going_more, going_stop, going_deep}
 use Rattle.cursor.proofs.Rounds.{Progress, progress_none, progress_on}
+use Rattle.cursor.specs.declared.Stop.TheVariants.{Miss, Deep}
+use Rattle.std.specs.Prelude.{Ok, Err, IsErr}
 
 -- Chains ---------------------------------------------------------------------
 
@@ -67,11 +68,11 @@ ChainLeft o m s base low left at₀ count₀ met₀ t₀ t' r =
 
 module _ {o m : Parser} (ok : Solid (o ▸ m)) {s : List ℕ} {base low left at₀ count₀ : ℕ} {met₀ : Bool} {t₀ : List ℕ} {at count : ℕ} {met : Bool} {t : List ℕ}
     (u : Chained o m s base low left at₀ count₀ met₀ t₀ at count met t) {t₁ : List ℕ} {r₁ : Read} (a : Reads (o ▸ m) s (cursor at count met) left t t₁ r₁) where
-  pub chain_step : (d : Cursor) → r₁ ≡ Got d → Stepped s at count d
+  pub chain_step : (d : Cursor) → r₁ ≡ Ok d → Stepped s at count d
   chain_step d e = stepped ok d u.progress.within (a.reading 0) e
 
   -- one part more, and the row of the pair; its bytes pay for that too
-  pub chain_more : (cost (o ▸ m)).debt + 1 ≤ (cost (o ▸ m)).gain → (d : Cursor) → r₁ ≡ Got d → (y : ℕ) → y + base ≡ d.count.0 + 1
+  pub chain_more : (cost (o ▸ m)).debt + 1 ≤ (cost (o ▸ m)).gain → (d : Cursor) → r₁ ≡ Ok d → (y : ℕ) → y + base ≡ d.count.0 + 1
       → length t₁ ≡ length t → {t₂ : List ℕ} → t₂ ≡ pushed row_width t₁ d.count.0 (row_record binaryᵏ y low low d.at.0 0) → length t₂ ≡ length t₁
       → Chained o m s base low left at₀ count₀ met₀ t₀ d.at.0 (d.count.0 + 1) d.met t₂
   chain_more pair d e y z same {t₂} eq same₂ =
@@ -106,13 +107,13 @@ module _ {o m : Parser} (ok : Solid (o ▸ m)) {s : List ℕ} {base low left at�
               }
 
   -- no part more
-  pub chain_end : (x : Bool) → r₁ ≡ Miss x → ChainLeft o m s base low left at₀ count₀ met₀ t₀ t₁ (Got (cursor at count x))
+  pub chain_end : (x : Bool) → r₁ ≡ Err (Miss x) → ChainLeft o m s base low left at₀ count₀ met₀ t₀ t₁ (Ok (cursor at count x))
   chain_end x e l acc₀ e₀ x₀ =
       let g = u.carries l acc₀ e₀ x₀ in
       going_stop g (a.reading l) x e (agrees_ok g.acc (here s at) (l + left) x base t₁ false 0 count x (omega arith) g.rows (sym (or-false x)))
 
   -- a part was too deep
-  pub chain_deep : r₁ ≡ Deep → ChainLeft o m s base low left at₀ count₀ met₀ t₀ t₁ Deep
+  pub chain_deep : r₁ ≡ Err Deep → ChainLeft o m s base low left at₀ count₀ met₀ t₀ t₁ (Err Deep)
   chain_deep e l acc₀ e₀ x₀ = going_deep (u.carries l acc₀ e₀ x₀) (a.reading l) e
 
 -- the whole of a chain
@@ -120,10 +121,10 @@ module _ (o m : Parser) {s : List ℕ} {c : Cursor} {left : ℕ} {t t₁ : List 
   abbrev chain_rest : ℕ → Rows → Input → Summary Rows
   chain_rest l v q = withˢ (folded v) (roundsˢ (scan (full s) (o ▸ m)) q.left l q)
 
-  pub chain_out : ((d : Cursor) → r₁ ≡ Got d → ⊥) → Reads (chain o m) s c left t t₁ r₁
+  pub chain_out : IsErr r₁ → Reads (chain o m) s c left t t₁ r₁
   chain_out h = record { reading = λ l. record { agrees = agrees_out [] (chain_rest l) (omega arith) (a.reading l).agrees h } }
 
-  pub chain_got : T (quiet m) → (low : ℕ) → ((l : ℕ) → Yields (Low low) (scan (full s) m l (here s c.at.0))) → (d : Cursor) → r₁ ≡ Got d
+  pub chain_got : T (quiet m) → (low : ℕ) → ((l : ℕ) → Yields (Low low) (scan (full s) m l (here s c.at.0))) → (d : Cursor) → r₁ ≡ Ok d
       → {t' : List ℕ} {r : Read} → ChainLeft o m s c.count.0 low left d.at.0 d.count.0 d.met t₁ t' r → Reads (chain o m) s c left t t' r
   unfolding left_of
   chain_got u low lows d e f =
@@ -194,29 +195,29 @@ module _ {m c : Parser} {s : List ℕ} {left at₀ count₀ : ℕ} {met₀ : Boo
   list_whole f = record { reading = λ l. record { agrees = agrees_is (list_all m c s l at₀) (f l) } }
 
   -- an item does not fit, or is too deep
-  pub list_out : ((d : Cursor) → r₁ ≡ Got d → ⊥) → Reads (many0 (m ▸ c) ▸ m) s (cursor at₀ count₀ met₀) left t₀ t₁ r₁
+  pub list_out : IsErr r₁ → Reads (many0 (m ▸ c) ▸ m) s (cursor at₀ count₀ met₀) left t₀ t₁ r₁
   list_out h = list_whole λ l. go l (u.carries l) r₁ refl
     where
       go : (l : ℕ) → Going (list_loop m c) s l (l + left) count₀ at₀ met₀ t₀ [] at count met t → (r : Read) → r₁ ≡ r
           → Agrees (left_of (list_loop m c) s l (drop at₀ s) [] at₀) (l + left) met₀ count₀ [] t₀ t₁ r
-      go l g (Got d) e = absurd (h d e)
-      go l g (Miss x) e =
+      go l g (Ok d) e = absurd (got_err e h)
+      go l g (Err (Miss x)) e =
           let y = lost (l + left) met count (scan (full s) m l (here s at)) x (sym e ∙ (a.reading l).agrees.answer) in
           going_stop g (seq_out (a.reading l) c h) x e
           (agrees_is (ap (withˢ λ v. g.acc ++ v) y.is) (agrees_err (l + left) x count₀ g.acc t₁ y.b y.k x y.low (or_again met y.b x y.noted)))
-      go l g Deep e = going_deep g (seq_out (a.reading l) c h) e
+      go l g (Err Deep) e = going_deep g (seq_out (a.reading l) c h) e
 
-  module _ (ok : Solid m) (d : Cursor) (e : r₁ ≡ Got d) where
+  module _ (ok : Solid m) (d : Cursor) (e : r₁ ≡ Ok d) where
     pub list_step : Stepped s at count d
     list_step = stepped ok d u.progress.within (a.reading 0) e
 
     module _ {t₂ : List ℕ} {r₂ : Read} (b : Leafs c s d t₁ t₂ r₂) where
       -- the last item
-      pub list_last : (x : Bool) → r₂ ≡ Miss x → Reads (many0 (m ▸ c) ▸ m) s (cursor at₀ count₀ met₀) left t₀ t₂ (Got (cursor d.at.0 d.count.0 x))
+      pub list_last : (x : Bool) → r₂ ≡ Err (Miss x) → Reads (many0 (m ▸ c) ▸ m) s (cursor at₀ count₀ met₀) left t₀ t₂ (Ok (cursor d.at.0 d.count.0 x))
       list_last x q = list_whole λ l. go l (u.carries l)
         where
           go : (l : ℕ) → Going (list_loop m c) s l (l + left) count₀ at₀ met₀ t₀ [] at count met t
-              → Agrees (left_of (list_loop m c) s l (drop at₀ s) [] at₀) (l + left) met₀ count₀ [] t₀ t₂ (Got (cursor d.at.0 d.count.0 x))
+              → Agrees (left_of (list_loop m c) s l (drop at₀ s) [] at₀) (l + left) met₀ count₀ [] t₀ t₂ (Ok (cursor d.at.0 d.count.0 x))
           go l g =
               let y = (a.reading l).agrees in
               let z = (b.reading l (l + left)).agrees in
@@ -226,7 +227,7 @@ module _ {m c : Parser} {s : List ℕ} {left at₀ count₀ : ℕ} {met₀ : Boo
               let v = g.acc ++ f.v in
               let n : d.count.0 ≡ count₀ + length v = omega (arith, f.count, g.rows, length-append g.acc f.v) in
               let o = fits v (here s d.at.0) false 0 in
-              let r = Got (cursor d.at.0 d.count.0 x) in
+              let r = Ok (cursor d.at.0 d.count.0 x) in
               g.back t₂ r
               (agrees_is (list_last_is m c s l g.fuel g.acc f.v at d.at.0 f.b h.b f.k h.k (found_here s lie f) h.is
               ∙ sym (ap (λ z. thenˢ z λ _ _. more h.b h.k o) (found_here s lie f)))
@@ -237,7 +238,7 @@ module _ {m c : Parser} {s : List ℕ} {left at₀ count₀ : ℕ} {met₀ : Boo
               (agrees_ok v (here s d.at.0) (l + left) x count₀ t₂ false 0 d.count.0 x (omega arith) n (sym (or-false x))))))))
 
       -- and there is another
-      pub list_more : Solid (m ▸ c) → (n : Cursor) → r₂ ≡ Got n → length t₁ ≡ length t → length t₂ ≡ length t₁
+      pub list_more : Solid (m ▸ c) → (n : Cursor) → r₂ ≡ Ok n → length t₁ ≡ length t → length t₂ ≡ length t₁
           → Listed m c s left at₀ count₀ met₀ t₀ n.at.0 n.count.0 n.met t₂
       list_more pair n q same same₂ =
           let st = stepped pair n u.progress.within (both 0) q in
@@ -305,7 +306,7 @@ looped_none lims m s at count met t h =
 
 module _ {lims : ℕ → ℕ → ℕ} {m : Parser} {s : List ℕ} {at₀ count₀ : ℕ} {met₀ : Bool} {t₀ : List ℕ} {at count : ℕ} {met : Bool} {t : List ℕ}
     (u : Looped lims m s at₀ count₀ met₀ t₀ at count met t) {t₁ : List ℕ} {r₁ : Read} (a : (l j : ℕ) → Reading m s l (lims l j) at met count t t₁ r₁) where
-  pub many_step : Repeatable m → (d : Cursor) → r₁ ≡ Got d → Round s at count d
+  pub many_step : Repeatable m → (d : Cursor) → r₁ ≡ Ok d → Round s at count d
   unfolding full
   many_step ok d e =
       let f = found (lims 0 0) met count (scan (full s) m 0 (here s at)) d (sym e ∙ (a 0 0).agrees.answer) in
@@ -314,7 +315,7 @@ module _ {lims : ℕ → ℕ → ℕ} {m : Parser} {s : List ℕ} {at₀ count�
       record { on = omega (arith, f.at, fwd); within = mv.within; rows = omega (arith, mv.rows, leb→le (cost m).debt (cost m).gain ok.paying) }
 
   -- one round more
-  pub many_more : Repeatable m → (d : Cursor) → r₁ ≡ Got d → length t₁ ≡ length t
+  pub many_more : Repeatable m → (d : Cursor) → r₁ ≡ Ok d → length t₁ ≡ length t
       → Looped lims m s at₀ count₀ met₀ t₀ d.at.0 d.count.0 d.met t₁
   many_more ok d e same =
       let st = many_step ok d e in
@@ -330,7 +331,7 @@ module _ {lims : ℕ → ℕ → ℕ} {m : Parser} {s : List ℕ} {at₀ count�
   many_whole l j b = record { agrees = agrees_is (many_all m s l at₀) b }
 
   -- no round more
-  pub many_end : (x : Bool) → r₁ ≡ Miss x → (l j : ℕ) → Reading (many0 m) s l (lims l j) at₀ met₀ count₀ t₀ t₁ (Got (cursor at count x))
+  pub many_end : (x : Bool) → r₁ ≡ Err (Miss x) → (l j : ℕ) → Reading (many0 m) s l (lims l j) at₀ met₀ count₀ t₀ t₁ (Ok (cursor at count x))
   many_end x e l j =
       let g = u.carries l j in
       many_whole l j (going_stop g (a l j) x e
@@ -338,5 +339,5 @@ module _ {lims : ℕ → ℕ → ℕ} {m : Parser} {s : List ℕ} {at₀ count�
       (agrees_ok g.acc (here s at) (lims l j) x count₀ t₁ false 0 count x (omega arith) g.rows (sym (or-false x)))))
 
   -- a round was too deep
-  pub many_deep : r₁ ≡ Deep → (l j : ℕ) → Reading (many0 m) s l (lims l j) at₀ met₀ count₀ t₀ t₁ Deep
+  pub many_deep : r₁ ≡ Err Deep → (l j : ℕ) → Reading (many0 m) s l (lims l j) at₀ met₀ count₀ t₀ t₁ (Err Deep)
   many_deep e l j = many_whole l j (going_deep (u.carries l j) (a l j) e)

@@ -14,10 +14,11 @@ use Rattle.reading.proofs.Tests.{quiet}
 use Rattle.cursor.specs.Text.{here, cursor}
 use Rattle.cursor.specs.Agree.{full, peak_of, Agrees, Reading, Ready}
 use Rattle.cursor.specs.declared.Cursor.{Cursor}
-use Rattle.cursor.specs.declared.Read.{Read}
-use Rattle.cursor.specs.declared.Read.TheVariants.{Got, Miss, Deep}
+use Rattle.cursor.specs.Read.{Read}
 use Rattle.cursor.proofs.Agree.{Found, found, found_here, lost, deep, agrees_deep, agrees_is, agrees_more, peak_more, Lies, agrees_found, kept, agrees_kept}
 use Rattle.cursor.proofs.Laws.{lies}
+use Rattle.cursor.specs.declared.Stop.TheVariants.{Miss, Deep}
+use Rattle.std.specs.Prelude.{Ok, Err}
 
 -- Summaries ------------------------------------------------------------------
 
@@ -125,7 +126,7 @@ pub record Joined (L : Loop) (base : ℕ) (acc v : Rows) (t₁ : List ℕ) (coun
 module _ {L : Loop} {s : List ℕ} {l lim base at₀ : ℕ} {met₀ : Bool} {t₀ : List ℕ} {acc₀ : Rows} {at count : ℕ} {met : Bool} {t : List ℕ}
     (g : Going L s l lim base at₀ met₀ t₀ acc₀ at count met t) {t₁ : List ℕ} {r₁ : Read} (a : Reading L.round s l lim at met count t t₁ r₁) where
   -- a round was read
-  pub going_more : T (quiet L.round) → (d : Cursor) → r₁ ≡ Got d → at < d.at.0 → d.at.0 ≤ length s → (n : ℕ) (t₂ : List ℕ)
+  pub going_more : T (quiet L.round) → (d : Cursor) → r₁ ≡ Ok d → at < d.at.0 → d.at.0 ≤ length s → (n : ℕ) (t₂ : List ℕ)
       → ((v : Rows) (b : Bool) (k : ℕ) → scan (full s) L.round l (here s at) ≡ fits v (here s d.at.0) b k
       → d.count.0 ≡ base + length (g.acc ++ v) → Joined L base g.acc v t₁ n t₂)
       → Going L s l lim base at₀ met₀ t₀ acc₀ d.at.0 n d.met t₂
@@ -160,7 +161,7 @@ module _ {L : Loop} {s : List ℕ} {l lim base at₀ : ℕ} {met₀ : Bool} {t�
           }
 
   -- a round missed: the end goes on with the table that it left
-  pub going_stop : (x : Bool) → r₁ ≡ Miss x → {t' : List ℕ} {r : Read}
+  pub going_stop : (x : Bool) → r₁ ≡ Err (Miss x) → {t' : List ℕ} {r : Read}
       → Agrees (L.end s l g.acc [] (here s at)) lim x base g.acc t₁ t' r
       → Agrees (left_of L s l (drop at₀ s) acc₀ at₀) lim met₀ base acc₀ t₀ t' r
   going_stop x e {t'} {r} c =
@@ -172,10 +173,10 @@ module _ {L : Loop} {s : List ℕ} {l lim base at₀ : ℕ} {met₀ : Bool} {t�
       (agrees_more o y.b y.k y.low (subst (λ (m : Bool). Agrees o lim m base g.acc t₁ t' r) y.noted c))))
 
   -- a round went too deep
-  pub going_deep : r₁ ≡ Deep → Agrees (left_of L s l (drop at₀ s) acc₀ at₀) lim met₀ base acc₀ t₀ t₁ Deep
+  pub going_deep : r₁ ≡ Err Deep → Agrees (left_of L s l (drop at₀ s) acc₀ at₀) lim met₀ base acc₀ t₀ t₁ (Err Deep)
   going_deep e =
       let y = deep lim met count (scan (full s) L.round l (here s at)) (sym e ∙ a.agrees.answer) in
-      g.back t₁ Deep (agrees_deep lim met base (left_of L s l g.fuel g.acc at) (omega (arith, y, left_peak L s l g.fuel g.acc at)))
+      g.back t₁ (Err Deep) (agrees_deep lim met base (left_of L s l g.fuel g.acc at) (omega (arith, y, left_peak L s l g.fuel g.acc at)))
 
 -- Places and rows ------------------------------------------------------------
 

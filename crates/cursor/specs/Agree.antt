@@ -1,26 +1,26 @@
 -- What it means that a reader's answer and table agree with the written reading.
-use Rattle.std.specs.Prelude.{Bool, true, false, ◌||◌, List, [], ◌++◌, ◌≡◌, ℕ, ◌+◌, ◌*◌, ◌≤◌, ltb, length}
+use Rattle.std.specs.Prelude.{Bool, true, false, ◌||◌, List, [], ◌++◌, ◌≡◌, ℕ, ◌+◌, ◌*◌, ◌≤◌, ltb, length, Ok, Err}
 use Rattle.reading.specs.Grammar.{Rows, Rule, Parser}
 use Rattle.reading.specs.Summary.{Summary, fits, fails, Scan, scan, scans}
 use Rattle.reading.specs.Table.{max_text}
 use Rattle.table.specs.Words.{HoldsRows}
 use Rattle.cursor.specs.Text.{here, cursor}
 use Rattle.cursor.specs.declared.Cursor.{Cursor}
-use Rattle.cursor.specs.declared.Read.{Read}
-use Rattle.cursor.specs.declared.Read.TheVariants.{Got, Miss, Deep}
+use Rattle.cursor.specs.Read.{Read}
+use Rattle.cursor.specs.declared.Stop.TheVariants.{Miss, Deep}
 
 -- the rules, with fuel for the text
 unfoldable pub full : List ℕ → Rule → Scan Rows
 full s = scans (length s)
 
 abbrev pub deep_or : Bool → Read → Read
-deep_or true r = Deep
+deep_or true r = Err Deep
 deep_or false r = r
 
 -- the answer that a summary asks for, at a level limit, after `met` and `base` rows
 unfoldable pub answer_of : ℕ → Bool → ℕ → Summary Rows → Read
-answer_of lim met base (fits v q b k) = deep_or (ltb lim k) (Got (cursor q.at (base + length v) (met || b)))
-answer_of lim met base (fails b k) = deep_or (ltb lim k) (Miss (met || b))
+answer_of lim met base (fits v q b k) = deep_or (ltb lim k) (Ok (cursor q.at (base + length v) (met || b)))
+answer_of lim met base (fails b k) = deep_or (ltb lim k) (Err (Miss (met || b)))
 
 unfoldable pub rows_of : Summary Rows → Rows
 rows_of (fits v q b k) = v

@@ -1,3 +1,4 @@
+pub mod Read
 pub mod Text
 pub mod Word
 pub mod Agree

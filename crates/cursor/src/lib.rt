@@ -19,10 +19,12 @@ pub struct Skip {
     pub met: bool,
 }
 
-// A reader's answer: it fits, and ends here; it does not fit, and an open comment was met or not; it went deeper than the limit.
+// Why a reader has no answer: it does not fit, and this is what the attempt leaves; or it went deeper than the limit.
 #[derive(Clone, Copy)]
-pub enum Read {
-    Got(Cursor),
-    Miss(bool),
+pub enum Stop<M> {
+    Miss(M),
     Deep,
 }
+
+// A reader's answer: it fits, and ends here. An attempt leaves whether an open comment was met.
+pub type Read = Result<Cursor, Stop<bool>>;
