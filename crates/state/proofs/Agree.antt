@@ -2,12 +2,9 @@
 use mathlib.Core.Path.{◌≡◌, refl, ap, ap₂, sym, subst, ◌∙◌}
 use mathlib.Core.Bool.{Bool, true, false}
 use mathlib.Core.List.{List, [], ◌∷◌, ◌++◌, append-nil, append_assoc}
-use mathlib.Core.Logic.{⊎_elim}
 use Prim.Native.Nat.{ℕ, ◌+◌, ◌≤◌, ◌<◌}
 use native.Mathlib.Omega.{arith}
 use borrow.Author.Tests.{lt-ltb, le-ltb, ltb-true, ltb-false}
-use types.Run.{OneOf}
-use denote.Enum.Declared.{tag_of}
 use lib.Dec.{ltb}
 use lib.ListN.{length, length-append}
 use Rattle.reading.specs.Grammar.{Row, Rows, State, Input, Reply, ok, err, then, else, with}
@@ -17,14 +14,14 @@ use Rattle.table.proofs.Holds.{holds_push, holds_prefix}
 use Rattle.cursor.specs.Text.{here, cursor}
 use Rattle.cursor.specs.declared.Cursor.{Cursor}
 use Rattle.state.specs.declared.State.{State as Counts}
-use Rattle.state.specs.declared.Done.{Done}
-use Rattle.state.specs.declared.Done.TheVariants.{Got, Miss, Deep}
+use Rattle.state.specs.Done.{Done}
 use Rattle.state.specs.Acts.{counts, Log, log, Tables, tables, Logged, deep_or, done_of, state_after, rows_read, Acts}
-use Rattle.state.specs.contracts.Done.{the_type}
+use Rattle.cursor.specs.declared.Stop.TheVariants.{Miss, Deep}
+use Rattle.std.specs.Prelude.{Ok, Err, IsErr, is_err}
 
 -- Answers ------------------------------------------------------------------
 
--- what a Got, a Miss and a Deep say of the reply
+-- what an end and a miss say of the reply
 pub record Found (o : Reply Rows) (lim base : ℕ) (d : Cursor) (st : Counts) : Type 0 where
   pub v : Rows
   pub q : Input
@@ -42,42 +39,35 @@ pub record Lost (o : Reply Rows) (lim : ℕ) (st : Counts) : Type 0 where
   pub low : w.peak ≤ lim
   pub state : counts w ≡ st
 
-got_is : (d e : Cursor) (x y : Counts) → Got d x ≡ Got e y → (d ≡ e) × (x ≡ y)
-got_is d e x y h = (cc, cc)
+got_is : (d e : Cursor) (x y : Counts) → ◌≡◌ {A = Done} (Ok (d, x)) (Ok (e, y)) → (d ≡ e) × (x ≡ y)
+got_is d e x y h =
+    let p : ◌≡◌ {A = Cursor × Counts} (d, x) (e, y) = cc in (ap (λ (q : Cursor × Counts). q.0) p, ap (λ (q : Cursor × Counts). q.1) p)
 
-miss_is : (x y : Counts) → Miss x ≡ Miss y → x ≡ y
+miss_is : (x y : Counts) → ◌≡◌ {A = Done} (Err (Miss x)) (Err (Miss y)) → x ≡ y
 miss_is x y h = cc
 
-pub got_deep : (d : Cursor) (x : Counts) → Got d x ≡ Deep → ⊥
+pub got_deep : (d : Cursor) (x : Counts) → ◌≡◌ {A = Done} (Ok (d, x)) (Err Deep) → ⊥
 got_deep d x h = let z : ◌≡◌ {A = ℕ} 0 1 = cc in omega arith
 
-pub got_miss : (d : Cursor) (x y : Counts) → Got d x ≡ Miss y → ⊥
+pub got_miss : (d : Cursor) (x y : Counts) → ◌≡◌ {A = Done} (Ok (d, x)) (Err (Miss y)) → ⊥
 got_miss d x y h = let z : ◌≡◌ {A = ℕ} 0 1 = cc in omega arith
 
-pub miss_deep : (x : Counts) → Miss x ≡ Deep → ⊥
+pub miss_deep : (x : Counts) → ◌≡◌ {A = Done} (Err (Miss x)) (Err Deep) → ⊥
 miss_deep x h = let z : ◌≡◌ {A = ℕ} 0 1 = cc in omega arith
 
--- an answer that is known by its tag
-pub not_got : (r : Done) → OneOf (1 ∷ 2 ∷ []) (tag_of the_type r) → (d : Cursor) (x : Counts) → r ≡ Got d x → ⊥
-not_got r h d x e =
-    ⊎_elim (λ (x : 0 ≡ 1). let z : ⊥ = omega arith in z) (λ (x : 0 ≡ 2). let z : ⊥ = omega arith in z)
-    (subst (λ (x : Done). OneOf (1 ∷ 2 ∷ []) (tag_of the_type x)) e h)
-
-pub not_miss : (r : Done) → OneOf (0 ∷ 2 ∷ []) (tag_of the_type r) → (x : Counts) → r ≡ Miss x → ⊥
-not_miss r h x e =
-    ⊎_elim (λ (x : 1 ≡ 0). let z : ⊥ = omega arith in z) (λ (x : 1 ≡ 2). let z : ⊥ = omega arith in z)
-    (subst (λ (x : Done). OneOf (0 ∷ 2 ∷ []) (tag_of the_type x)) e h)
+pub got_err : {r : Done} {p : Cursor × Counts} → r ≡ Ok p → IsErr r → ⊥
+got_err q h = let z : ◌≡◌ {A = Bool} false true = sym (ap is_err q) ∙ h in cc
 
 module _ (lim base : ℕ) where
   -- the answers within the limit
   abbrev got_at : Rows → Input → State → Done
-  got_at v q w = Got (cursor q.at (base + length v) false) (counts w)
+  got_at v q w = Ok (cursor q.at (base + length v) false, counts w)
 
-  pub found : (o : Reply Rows) (d : Cursor) (x : Counts) → Got d x ≡ done_of lim base o → Found o lim base d x
+  pub found : (o : Reply Rows) (d : Cursor) (x : Counts) → Ok (d, x) ≡ done_of lim base o → Found o lim base d x
   unfolding done_of
   found (ok v q w) d x h = go (ltb lim w.peak) refl h
     where
-      go : (b : Bool) → ltb lim w.peak ≡ b → Got d x ≡ deep_or b (got_at v q w) → Found (ok v q w) lim base d x
+      go : (b : Bool) → ltb lim w.peak ≡ b → Ok (d, x) ≡ deep_or b (got_at v q w) → Found (ok v q w) lim base d x
       go true e z = absurd (got_deep d x z)
       go false e z =
           let g = got_is d _ x _ z in
@@ -94,44 +84,44 @@ module _ (lim base : ℕ) where
           }
   found (err w) d x h = absurd (go (ltb lim w.peak) h)
     where
-      go : (b : Bool) → Got d x ≡ deep_or b (Miss (counts w)) → ⊥
+      go : (b : Bool) → Ok (d, x) ≡ deep_or b (Err (Miss (counts w))) → ⊥
       go true z = got_deep d x z
       go false z = got_miss d x _ z
 
-  pub lost : (o : Reply Rows) (x : Counts) → Miss x ≡ done_of lim base o → Lost o lim x
+  pub lost : (o : Reply Rows) (x : Counts) → Err (Miss x) ≡ done_of lim base o → Lost o lim x
   unfolding done_of
   lost (ok v q w) x h = absurd (go (ltb lim w.peak) h)
     where
-      go : (b : Bool) → Miss x ≡ deep_or b (got_at v q w) → ⊥
+      go : (b : Bool) → Err (Miss x) ≡ deep_or b (got_at v q w) → ⊥
       go true z = miss_deep x z
       go false z = got_miss _ _ x (sym z)
   lost (err w) x h = go (ltb lim w.peak) refl h
     where
-      go : (b : Bool) → ltb lim w.peak ≡ b → Miss x ≡ deep_or b (Miss (counts w)) → Lost (err w) lim x
+      go : (b : Bool) → ltb lim w.peak ≡ b → Err (Miss x) ≡ deep_or b (Err (Miss (counts w))) → Lost (err w) lim x
       go true e z = absurd (miss_deep x z)
       go false e z = record { w = w; is = refl; low = ltb-false lim w.peak e; state = sym (miss_is x _ z) }
 
-  pub deep : (o : Reply Rows) → Deep ≡ done_of lim base o → lim < (state_after o).peak
+  pub deep : (o : Reply Rows) → Err Deep ≡ done_of lim base o → lim < (state_after o).peak
   unfolding done_of state_after
   deep (ok v q w) h = go (ltb lim w.peak) refl h
     where
-      go : (b : Bool) → ltb lim w.peak ≡ b → Deep ≡ deep_or b (got_at v q w) → lim < w.peak
+      go : (b : Bool) → ltb lim w.peak ≡ b → Err Deep ≡ deep_or b (got_at v q w) → lim < w.peak
       go true e z = ltb-true lim w.peak e
       go false e z = absurd (got_deep _ _ (sym z))
   deep (err w) h = go (ltb lim w.peak) refl h
     where
-      go : (b : Bool) → ltb lim w.peak ≡ b → Deep ≡ deep_or b (Miss (counts w)) → lim < w.peak
+      go : (b : Bool) → ltb lim w.peak ≡ b → Err Deep ≡ deep_or b (Err (Miss (counts w))) → lim < w.peak
       go true e z = ltb-true lim w.peak e
       go false e z = absurd (miss_deep _ (sym z))
 
   -- too deep
-  pub acts_deep : (o : Reply Rows) {acc : Rows} {b : Log} {T T' : Tables} → lim < (state_after o).peak → Acts o lim base acc b T T' Deep
+  pub acts_deep : (o : Reply Rows) {acc : Rows} {b : Log} {T T' : Tables} → lim < (state_after o).peak → Acts o lim base acc b T T' (Err Deep)
   unfolding done_of state_after
   acts_deep o h = record { answer = go o h; rows = λ k. absurd (let z : ⊥ = omega arith in z); logged = λ k. absurd (let z : ⊥ = omega arith in z) }
     where
-      go : (o : Reply Rows) → lim < (state_after o).peak → Deep ≡ done_of lim base o
+      go : (o : Reply Rows) → lim < (state_after o).peak → Err Deep ≡ done_of lim base o
       go (ok v q w) h = sym (ap (λ (x : Bool). deep_or x (got_at v q w)) (lt-ltb lim w.peak h))
-      go (err w) h = sym (ap (λ (x : Bool). deep_or x (Miss (counts w))) (lt-ltb lim w.peak h))
+      go (err w) h = sym (ap (λ (x : Bool). deep_or x (Err (Miss (counts w)))) (lt-ltb lim w.peak h))
 
 -- Steps --------------------------------------------------------------------
 
@@ -143,24 +133,24 @@ acts_is {lim = lim} {base = base} {acc = acc} {b = b} {T = T} {T' = T'} {r = r} 
 -- the rows are read: those collected are the value
 pub acts_ok : (v : Rows) (q : Input) (w : State) (lim base : ℕ) (T : Tables) (d : Cursor) (st : Counts)
     → w.peak ≤ lim → d.at.0 ≡ q.at → d.count.0 ≡ base + length v → d.met ≡ false → counts w ≡ st
-    → Acts (ok v q w) lim base v (log w) T T (Got d st)
+    → Acts (ok v q w) lim base v (log w) T T (Ok (d, st))
 unfolding done_of rows_read state_after
 acts_ok v q w lim base T d st h x y z j =
     let e : d ≡ cursor q.at (base + length v) false = λ k. cursor (x k) (y k) (z k) in
     record {
-      answer = ap₂ {C = Done} (λ (c : Cursor) (i : Counts). Got c i) e (sym j)
-          ∙ sym (ap (λ (b : Bool). deep_or b (Got (cursor q.at (base + length v) false) (counts w))) (le-ltb lim w.peak h));
+      answer = ap₂ {C = Done} (λ (c : Cursor) (i : Counts). Ok (c, i)) e (sym j)
+          ∙ sym (ap (λ (b : Bool). deep_or b (Ok (cursor q.at (base + length v) false, counts w))) (le-ltb lim w.peak h));
       rows = λ z pre y g. g;
       logged = λ z g. g;
     }
 
 -- it does not fit: the rows collected are given up, the errors and requests stay
 pub acts_err : (w : State) (lim base : ℕ) (acc : Rows) (T : Tables) (st : Counts)
-    → w.peak ≤ lim → counts w ≡ st → Acts (err w) lim base acc (log w) T T (Miss st)
+    → w.peak ≤ lim → counts w ≡ st → Acts (err w) lim base acc (log w) T T (Err (Miss st))
 unfolding done_of rows_read state_after
 acts_err w lim base acc T st h j =
     record {
-      answer = ap Miss (sym j) ∙ sym (ap (λ (x : Bool). deep_or x (Miss (counts w))) (le-ltb lim w.peak h));
+      answer = ap (λ (x : Counts). Err (Miss x)) (sym j) ∙ sym (ap (λ (x : Bool). deep_or x (Err (Miss (counts w)))) (le-ltb lim w.peak h));
       rows = λ z pre y g. rw append-nil (holds_prefix T.rows pre acc g);
       logged = λ z g. g;
     }
@@ -192,7 +182,7 @@ unfolding done_of rows_read state_after
 acts_with (ok v q w) {lim} {base} acc {b} {n} {T} {T'} i a =
     record {
       answer = a.answer
-          ∙ ap (λ (i : ℕ). deep_or (ltb lim w.peak) (Got (cursor q.at i false) (counts w)))
+          ∙ ap (λ (i : ℕ). deep_or (ltb lim w.peak) (Ok (cursor q.at i false, counts w)))
           (let z : n + length v ≡ base + length (acc ++ v) = omega (arith, length-append acc v) in z);
       rows = λ h pre z g.
           let y : HoldsRows T'.rows ((pre ++ acc) ++ v) = a.rows h (pre ++ acc) (omega (arith, length-append pre acc)) (rw append-nil g) in
@@ -252,7 +242,7 @@ found_at s f lie = f.is ∙ ap (λ q. ok f.v q f.w) (subst (Lies s) f.is lie ∙
 
 -- a callee read something, and the rest goes on from there, in the state that it left
 pub acts_got : (s : List ℕ) {o : Reply Rows} {lim base : ℕ} (acc : Rows) {b : Log} {n : ℕ} {T T₁ T' : Tables} {r₁ r : Done} (d : Cursor) (st : Counts)
-    (f : Rows → Input → State → Reply Rows) → n ≡ base + length acc → Lies s o → Acts o lim n [] b T T₁ r₁ → r₁ ≡ Got d st
+    (f : Rows → Input → State → Reply Rows) → n ≡ base + length acc → Lies s o → Acts o lim n [] b T T₁ r₁ → r₁ ≡ Ok (d, st)
     → ((v : Rows) (w : State) → o ≡ ok v (here s d.at.0) w → d.count.0 ≡ base + length (acc ++ v) → d.met ≡ false → counts w ≡ st → w.peak ≤ lim
     → Acts (f v (here s d.at.0) w) lim base (acc ++ v) (log w) T₁ T' r)
     → Acts (then o f) lim base acc b T T' r
@@ -266,7 +256,7 @@ acts_got s {o} {lim} {base} acc {b} {n} {T} {T₁} {T'} {r₁} {r} d st f i lie 
 
 -- a callee read nothing, and the rest goes on in the state that it left
 pub acts_or : {o : Reply Rows} {lim base : ℕ} (acc : Rows) {b : Log} {n : ℕ} {T T₁ T' : Tables} {r₁ r : Done} (st : Counts) (f : State → Reply Rows)
-    → n ≡ base + length acc → Acts o lim n [] b T T₁ r₁ → r₁ ≡ Miss st
+    → n ≡ base + length acc → Acts o lim n [] b T T₁ r₁ → r₁ ≡ Err (Miss st)
     → ((w : State) → counts w ≡ st → w.peak ≤ lim → Acts (f w) lim base acc (log w) T₁ T' r) → Acts (else o f) lim base acc b T T' r
 acts_or {o} {lim} {base} acc {b} {n} {T} {T₁} {T'} {r₁} {r} st f i a u g = go (lost lim n o st (sym u ∙ a.answer))
   where
@@ -289,27 +279,27 @@ peak_else (err w) f h = h w
 
 -- a callee that read nothing, or went too deep, is the end of the reading
 pub acts_out : {o : Reply Rows} {lim base : ℕ} (acc : Rows) {b : Log} {n : ℕ} {T T₁ : Tables} {r₁ : Done} (f : Rows → Input → State → Reply Rows)
-    → Rises f → n ≡ base + length acc → Acts o lim n [] b T T₁ r₁ → ((d : Cursor) (x : Counts) → r₁ ≡ Got d x → ⊥)
+    → Rises f → n ≡ base + length acc → Acts o lim n [] b T T₁ r₁ → IsErr r₁
     → Acts (then o f) lim base acc b T T₁ r₁
 acts_out {o} {lim} {base} acc {b} {n} {T} {T₁} {r₁} f up i a h = go r₁ refl
   where
-    missed : (x : Counts) → Lost o lim x → Acts (then o f) lim base acc b T T₁ (Miss x)
+    missed : (x : Counts) → Lost o lim x → Acts (then o f) lim base acc b T T₁ (Err (Miss x))
     missed x g = acts_is (ap (λ o. then o f) g.is) (acts_lost acc g i a (acts_err g.w lim base acc T₁ x g.low g.state))
 
     go : (r : Done) → r₁ ≡ r → Acts (then o f) lim base acc b T T₁ r
-    go (Got d x) q = absurd (h d x q)
-    go (Miss x) q = missed x (lost lim n o x (sym q ∙ a.answer))
-    go Deep q = acts_deep lim base (then o f) (omega (arith, deep lim n o (sym q ∙ a.answer), peak_then o f up))
+    go (Ok (d, x)) q = absurd (got_err q h)
+    go (Err (Miss x)) q = missed x (lost lim n o x (sym q ∙ a.answer))
+    go (Err Deep) q = acts_deep lim base (then o f) (omega (arith, deep lim n o (sym q ∙ a.answer), peak_then o f up))
 
 -- the first attempt read something, or went too deep
 pub acts_first : {o : Reply Rows} (f : State → Reply Rows) → ((w : State) → w.peak ≤ (state_after (f w)).peak)
-    → {lim base : ℕ} {acc : Rows} {b : Log} {T T' : Tables} {r : Done} → Acts o lim base acc b T T' r → ((x : Counts) → r ≡ Miss x → ⊥)
+    → {lim base : ℕ} {acc : Rows} {b : Log} {T T' : Tables} {r : Done} → Acts o lim base acc b T T' r → ((x : Counts) → r ≡ Err (Miss x) → ⊥)
     → Acts (else o f) lim base acc b T T' r
 acts_first {o} f up {lim} {base} {acc} {b} {T} {T'} {r} a h = go r refl
   where
     go : (x : Done) → r ≡ x → Acts (else o f) lim base acc b T T' r
-    go (Got d x) q = let g = found lim base o d x (sym q ∙ a.answer) in acts_is (ap (λ o. else o f) g.is ∙ sym g.is) a
-    go (Miss x) q = absurd (h x q)
-    go Deep q =
+    go (Ok (d, x)) q = let g = found lim base o d x (sym q ∙ a.answer) in acts_is (ap (λ o. else o f) g.is ∙ sym g.is) a
+    go (Err (Miss x)) q = absurd (h x q)
+    go (Err Deep) q =
         subst (λ (x : Done). Acts (else o f) lim base acc b T T' x) (sym q)
         (acts_deep lim base (else o f) (omega (arith, deep lim base o (sym q ∙ a.answer), peak_else o f up)))

@@ -21,8 +21,7 @@ use Rattle.cursor.specs.Text.{here, cursor, Skips}
 use Rattle.cursor.specs.declared.Cursor.{Cursor}
 use Rattle.cursor.specs.declared.Skip.{Skip}
 use Rattle.state.specs.declared.State.{State as Counts}
-use Rattle.state.specs.declared.Done.{Done}
-use Rattle.state.specs.declared.Done.TheVariants.{Got, Miss, Deep}
+use Rattle.state.specs.Done.{Done}
 use Rattle.state.specs.Acts.{counts, log, Tables, tables, rules, state_after, Acts, Acting, Does, TellsLeaf, opening, Closes, Reported}
 use Rattle.state.proofs.Agree.{found, Rises, peak_then, peak_else, got_deep, acts_is, acts_ok, acts_push, acts_told, acts_with, acts_deep, acts_got, acts_or, acts_out}
 use Rattle.state.proofs.Agree.{acts_first}
@@ -31,6 +30,8 @@ use Rattle.state.proofs.Lift.{acting_from}
 use Rattle.state.proofs.Laws.{lies, rises, rises_with, told_rises, seq_empty}
 use Rattle.state.proofs.Rows.{Starts, line_quiet, starts_node, starts_over, over_out, over_got}
 use Rattle.state.proofs.Bounds.{some_state, some_counts}
+use Rattle.cursor.specs.declared.Stop.TheVariants.{Miss, Deep}
+use Rattle.std.specs.Prelude.{Ok, Err, IsErr}
 
 -- A brace ------------------------------------------------------------------
 
@@ -84,7 +85,7 @@ missing o i s v = ok (mended o) (here s i) (reported (error_at 5 i) v)
 
 module _ (w : Parser) (o : Row) {s : List ℕ} {c : Cursor} {st : Counts} {t t₁ e e₁ : List ℕ} {r₁ : Done} (a : TellsLeaf (brace 125 w) s c st t t₁ e e₁ r₁) where
   -- the brace is there
-  pub close_first : ((x : Counts) → r₁ ≡ Miss x → ⊥) → Closes w o s c st t t₁ e e₁ r₁
+  pub close_first : ((x : Counts) → r₁ ≡ Err (Miss x) → ⊥) → Closes w o s c st t t₁ e e₁ r₁
   close_first h =
       record {
         doing = λ l left q. record {
@@ -94,12 +95,12 @@ module _ (w : Parser) (o : Row) {s : List ℕ} {c : Cursor} {st : Counts} {t t�
       }
 
   -- it is missing: a copy of the opening one, and report 5
-  pub close_missing : (x : Counts) → r₁ ≡ Miss x → {y : Counts} {e₂ : List ℕ} → Reported (error_at 5 c.at.0) x y e₁ e₂
+  pub close_missing : (x : Counts) → r₁ ≡ Err (Miss x) → {y : Counts} {e₂ : List ℕ} → Reported (error_at 5 c.at.0) x y e₁ e₂
       → {t₂ : List ℕ} → t₂ ≡ pushed row_width t₁ c.count.0 (row_record charᵏ 1 o.tlow o.low o.high 125)
-      → Closes w o s c st t t₂ e e₂ (Got (cursor c.at.0 (c.count.0 + 1) false) y)
+      → Closes w o s c st t t₂ e e₂ (Ok (cursor c.at.0 (c.count.0 + 1) false, y))
   close_missing x is {y} {e₂} report {t₂} row =
       let er = error_at 5 c.at.0 in
-      let r = Got (cursor c.at.0 (c.count.0 + 1) false) y in
+      let r = Ok (cursor c.at.0 (c.count.0 + 1) false, y) in
       record {
         doing = λ l left q. record {
           acts = λ v p k. acts_or [] x (missing o c.at.0 s) (omega arith) (((a.does left q).acting l).doing.acts v p k) is
@@ -118,7 +119,7 @@ pub record Ended (s : List ℕ) (c d : Cursor) : Type 0 where
   pub count : d.count.0 ≡ c.count.0 + 1
 
 pub ended : {w : Parser} {o : Row} {s : List ℕ} {c : Cursor} {st : Counts} {t t' e e' : List ℕ} {r : Done}
-    → c.at.0 ≤ length s → Closes w o s c st t t' e e' r → (d : Cursor) (x : Counts) → r ≡ Got d x → Ended s c d
+    → c.at.0 ≤ length s → Closes w o s c st t t' e e' r → (d : Cursor) (x : Counts) → r ≡ Ok (d, x) → Ended s c d
 unfolding rules
 ended {w} {o} {s} {c} {st} h a d x q =
     let p = here s c.at.0 in
@@ -214,7 +215,7 @@ starts_block {s} {l} skip =
 
 -- a brace begins a byte before its end
 starts_mark : {b : ℕ} {t : Parser} {s : List ℕ} {l lim i base : ℕ} {st : Counts} {T T₁ : Tables} {r₁ : Done} → Acting (brace b t) s l lim i base st T T₁ r₁
-    → (d : Cursor) (x : Counts) → r₁ ≡ Got d x → (low : ℕ) → low + 1 ≡ d.at.0 → Starts (brace b t) s l lim i st low
+    → (d : Cursor) (x : Counts) → r₁ ≡ Ok (d, x) → (low : ℕ) → low + 1 ≡ d.at.0 → Starts (brace b t) s l lim i st low
 starts_mark {b} {t} {s} {l} {lim} {i} {base} a d x q low e =
     record {
       first = λ w p k.
@@ -240,14 +241,14 @@ module _ {t : Parser} (m : Parser) (k dt : ℕ) {left : ℕ} {s : List ℕ} {c :
   braced_from l f = acting_from λ w p j. acts_is (braced_is t m s l (here s c.at.0) w) (f w p j)
 
   -- no brace
-  pub block_out : ((d : Cursor) (x : Counts) → r₁ ≡ Got d x → ⊥) → Does block_of s c st left T T₁ r₁
+  pub block_out : IsErr r₁ → Does block_of s c st left T T₁ r₁
   block_out h =
       record {
         acting = λ l. over_out
             (seq_empty (braced_from l λ w p j. acts_out [] (inside t m s l) (inside_rises t m s l) (omega arith) (opens l w p j) h)) k dt h;
       }
 
-  module _ (d : Cursor) (x : Counts) (q : r₁ ≡ Got d x) where
+  module _ (d : Cursor) (x : Counts) (q : r₁ ≡ Ok (d, x)) where
     -- the brace was read, and the rest goes on behind it
     behind_brace : {T' : Tables} {r : Done} (l : ℕ)
         → ((v : Rows) (u : State) → Marked 123 c.at.0 v (here s d.at.0) → d.count.0 ≡ c.count.0 + length v → counts u ≡ x → u.peak ≤ l + left
@@ -258,12 +259,12 @@ module _ {t : Parser} (m : Parser) (k dt : ℕ) {left : ℕ} {s : List ℕ} {c :
         λ v u e n met o i. f v u (mark_is s 123 t l (here s c.at.0) w e) n o i
 
     -- no level is left
-    pub block_none : {T' : Tables} → left ≡ 0 → Does block_of s c st left T T' Deep
+    pub block_none : {T' : Tables} → left ≡ 0 → Does block_of s c st left T T' (Err Deep)
     block_none z =
         record {
           acting = λ l. over_out
               (seq_empty (behind_brace l λ v u mark n o i. acts_deep (l + left) c.count.0 (inside t m s l v (here s d.at.0) u)
-              (omega (arith, z, inside_high t m s l v (here s d.at.0) u)))) k dt (λ e y h. got_deep e y (sym h));
+              (omega (arith, z, inside_high t m s l v (here s d.at.0) u)))) k dt refl;
         }
 
     module _ (some : left ≡ 0 → ⊥) {T₂ : Tables} {r₂ : Done} (b : Does (many0 m) s d x (left - 1) T₁ T₂ r₂) where
@@ -274,14 +275,14 @@ module _ {t : Parser} (m : Parser) (k dt : ℕ) {left : ℕ} {s : List ℕ} {c :
           (let z : suc l + (left - 1) ≡ l + left = omega arith in z) ((b.acting (suc l)).doing.acts (raised (suc l) u) o (omega arith))
 
       -- the items go too deep
-      pub block_items : ((d : Cursor) (x : Counts) → r₂ ≡ Got d x → ⊥) → Does block_of s c st left T T₂ r₂
+      pub block_items : IsErr r₂ → Does block_of s c st left T T₂ r₂
       block_items h =
           record {
             acting = λ l. over_out
                 (seq_empty (behind_brace l λ v u mark n o i. acts_out v (end_of t m s l v) (end_rises t m s l v) n (reads_items l u o i) h)) k dt h;
           }
 
-      module _ (low : ℕ) (at : low + 1 ≡ d.at.0) (g : Cursor) (y : Counts) (q₂ : r₂ ≡ Got g y) {t₃ e₃ : List ℕ} {r₃ : Done}
+      module _ (low : ℕ) (at : low + 1 ≡ d.at.0) (g : Cursor) (y : Counts) (q₂ : r₂ ≡ Ok (g, y)) {t₃ e₃ : List ℕ} {r₃ : Done}
           (e : Closes t (opening c.at.0 low) s g y T₂.rows t₃ T₂.errors e₃ r₃) where
         abbrev T₃ : Tables
         T₃ = tables t₃ e₃ T₂.requests
@@ -300,13 +301,13 @@ module _ {t : Parser} (m : Parser) (k dt : ℕ) {left : ℕ} {s : List ℕ} {c :
             (let j : suc l + (left - 1) ≡ l + left = omega arith in j) ((e.doing (suc l) (left - 1) T₂.requests).acts u₂ i₂ (omega arith))))
 
         -- the end does not answer
-        pub block_end : ((d : Cursor) (x : Counts) → r₃ ≡ Got d x → ⊥) → Does block_of s c st left T T₃ r₃
+        pub block_end : IsErr r₃ → Does block_of s c st left T T₃ r₃
         block_end h = record { acting = λ l. over_out (seq_empty (in_braces l)) k dt h }
 
         -- the block is read: its row of n rows in all
-        pub block_got : (h : Cursor) (z : Counts) → r₃ ≡ Got h z → (n : ℕ) → n + c.count.0 ≡ h.count.0 + 1
+        pub block_got : (h : Cursor) (z : Counts) → r₃ ≡ Ok (h, z) → (n : ℕ) → n + c.count.0 ≡ h.count.0 + 1
             → {f : List ℕ} → f ≡ pushed row_width t₃ h.count.0 (row_record k n c.at.0 low h.at.0 dt)
-            → Does block_of s c st left T (tables f e₃ T₂.requests) (Got (cursor h.at.0 (h.count.0 + 1) false) z)
+            → Does block_of s c st left T (tables f e₃ T₂.requests) (Ok (cursor h.at.0 (h.count.0 + 1) false, z))
         block_got h z q₃ n size is =
             record {
               acting = λ l.

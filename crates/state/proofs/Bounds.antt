@@ -17,10 +17,11 @@ use Rattle.reading.proofs.Meters.{scope_prices, scopes_paid, scope_meter}
 use Rattle.cursor.specs.Text.{here}
 use Rattle.cursor.specs.declared.Cursor.{Cursor}
 use Rattle.state.specs.declared.State.{State as Counts}
-use Rattle.state.specs.declared.Done.{Done}
-use Rattle.state.specs.declared.Done.TheVariants.{Got, Miss}
+use Rattle.state.specs.Done.{Done}
 use Rattle.state.specs.Acts.{counts, Tables, rules, Acting, charge, Fit}
 use Rattle.state.proofs.Agree.{Found, found, Lost, lost}
+use Rattle.cursor.specs.declared.Stop.TheVariants.{Miss}
+use Rattle.std.specs.Prelude.{Ok, Err}
 
 -- The tests ----------------------------------------------------------------
 
@@ -99,7 +100,7 @@ module _ (g : Parser) {s : List ℕ} {l lim i base : ℕ} {st : Counts} {T T' : 
     abbrev test : Passes (slim g) × Passes (fair error_prices g) × Passes (fair scope_prices g) × Passes (fair request_prices g)
     test = all_four (slim g) (fair error_prices g) (fair scope_prices g) (fair request_prices g) t
 
-    pub acted : (d : Cursor) (x : Counts) → r ≡ Got d x → Advanced g s i base st d x
+    pub acted : (d : Cursor) (x : Counts) → r ≡ Ok (d, x) → Advanced g s i base st d x
     unfolding rules
     acted d x q = go (found lim base read d x (sym q ∙ (a.doing.acts w₀ (some_counts st) (omega arith)).answer))
       where
@@ -122,7 +123,7 @@ module _ (g : Parser) {s : List ℕ} {l lim i base : ℕ} {st : Counts} {T T' : 
               requests = omega (arith, f.at, k, ap (λ (st : Counts). st.requests) f.state, ap (λ (st : Counts). st.requests) (some_counts st));
             }
 
-    pub missed : (x : Counts) → r ≡ Miss x → Stayed st x
+    pub missed : (x : Counts) → r ≡ Err (Miss x) → Stayed st x
     unfolding rules
     missed x q = go (lost lim base read x (sym q ∙ (a.doing.acts w₀ (some_counts st) (omega arith)).answer))
       where
@@ -139,7 +140,7 @@ module _ (g : Parser) {s : List ℕ} {l lim i base : ℕ} {st : Counts} {T T' : 
             }
 
   -- what moves has read a byte
-  pub moved : Passes (moves g) → (d : Cursor) (x : Counts) → r ≡ Got d x → i < d.at.0
+  pub moved : Passes (moves g) → (d : Cursor) (x : Counts) → r ≡ Ok (d, x) → i < d.at.0
   unfolding rules
   moved t d x q = go (found lim base read d x (sym q ∙ (a.doing.acts w₀ (some_counts st) (omega arith)).answer))
     where
@@ -152,7 +153,7 @@ module _ (g : Parser) {s : List ℕ} {l lim i base : ℕ} {st : Counts} {T T' : 
 
 module _ {k : ℕ} {s : List ℕ} {c : Cursor} {st : Counts} (h : Fit k s c st) where
   pub fit_got : (g : Parser) → Passes (sober g) → Passes (settled g) → {l lim : ℕ} {T T' : Tables} {r : Done}
-      → Acting g s l lim c.at.0 c.count.0 st T T' r → (d : Cursor) (x : Counts) → r ≡ Got d x → Fit k s d x
+      → Acting g s l lim c.at.0 c.count.0 st T T' r → (d : Cursor) (x : Counts) → r ≡ Ok (d, x) → Fit k s d x
   fit_got g t u a d x q =
       let b = acted g h.within a t d x q in
       let v = all_four (paid (cost g)) (paid (dues error_prices g)) (paid (dues scope_prices g)) (paid (dues request_prices g)) u in
@@ -170,7 +171,7 @@ module _ {k : ℕ} {s : List ℕ} {c : Cursor} {st : Counts} (h : Fit k s c st) 
       }
 
   pub fit_miss : (g : Parser) → Passes (sober g) → {l lim : ℕ} {T T' : Tables} {r : Done}
-      → Acting g s l lim c.at.0 c.count.0 st T T' r → (x : Counts) → r ≡ Miss x → Fit k s c x
+      → Acting g s l lim c.at.0 c.count.0 st T T' r → (x : Counts) → r ≡ Err (Miss x) → Fit k s c x
   fit_miss g t a x q =
       let b = missed g h.within a t x q in
       record {

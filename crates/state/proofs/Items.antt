@@ -14,13 +14,14 @@ use Rattle.reading.proofs.Trees.{peak_of, Belows, Sound, sound, reads_sound, rou
 use Rattle.cursor.specs.Text.{here, cursor}
 use Rattle.cursor.specs.declared.Cursor.{Cursor}
 use Rattle.state.specs.declared.State.{State as Counts}
-use Rattle.state.specs.declared.Done.{Done}
-use Rattle.state.specs.declared.Done.TheVariants.{Got, Miss, Deep}
+use Rattle.state.specs.Done.{Done}
 use Rattle.state.specs.Acts.{counts, log, Tables, rules, state_after, Acts, Does, Fit}
 use Rattle.state.proofs.Agree.{found, lost, deep, found_at, acts_is, acts_deep, acts_ok, acts_found, acts_lost}
 use Rattle.state.proofs.Lift.{acting_from}
 use Rattle.state.proofs.Laws.{lies}
 use Rattle.state.proofs.Bounds.{sober, settled, moved, acted, fit_got}
+use Rattle.cursor.specs.declared.Stop.TheVariants.{Miss, Deep}
+use Rattle.std.specs.Prelude.{Ok, Err}
 
 -- Rounds -------------------------------------------------------------------
 
@@ -132,7 +133,7 @@ walking_none m {s} left {c} T h =
 -- one turn, at a level and from a state
 module _ {m : Parser} {s : List ℕ} {left at₀ count₀ : ℕ} {T₀ : Tables} {at count : ℕ} {st : Counts} {T T₁ : Tables} {r₁ : Done}
     (a : Does m s (cursor at count false) st left T T₁ r₁) (l : ℕ) (w₀ : State) (g : Carried m s l (l + left) at₀ count₀ w₀ T₀ at count st T) where
-  turn : (d : Cursor) (x : Counts) → r₁ ≡ Got d x → at < d.at.0 → d.at.0 ≤ length s → (fu : List ℕ) → g.fuel ≡ fu
+  turn : (d : Cursor) (x : Counts) → r₁ ≡ Ok (d, x) → at < d.at.0 → d.at.0 ≤ length s → (fu : List ℕ) → g.fuel ≡ fu
       → Carried m s l (l + left) at₀ count₀ w₀ T₀ d.at.0 d.count.0 x T₁
   turn d x q on within [] i = absurd (let z : ⊥ = omega (arith, g.enough, ap length i) in z)
   turn d x q on within (c ∷ fu) i =
@@ -153,30 +154,30 @@ module _ {m : Parser} {s : List ℕ} {left at₀ count₀ : ℕ} {T₀ : Tables}
             (acts_found g.acc f g.rows y h));
       }
 
-  stop : (x : Counts) → r₁ ≡ Miss x
-      → Acts (items_left m s l (drop at₀ s) [] at₀ w₀) (l + left) count₀ [] (log w₀) T₀ T₁ (Got (cursor at count false) x)
+  stop : (x : Counts) → r₁ ≡ Err (Miss x)
+      → Acts (items_left m s l (drop at₀ s) [] at₀ w₀) (l + left) count₀ [] (log w₀) T₀ T₁ (Ok (cursor at count false, x))
   stop x q =
       let y = (a.acting l).doing.acts g.w g.state g.low in
       let f = lost (l + left) count (parse (rules s) m l (here s at) g.w) x (sym q ∙ y.answer) in
-      g.back T₁ (Got (cursor at count false) x)
+      g.back T₁ (Ok (cursor at count false, x))
       (acts_is (items_end m s l g.fuel g.acc at g.w f.w f.is ∙ ap (λ (v : Rows). ok v (here s at) f.w) (append-nil g.acc))
       (acts_lost g.acc f g.rows y (acts_ok g.acc (here s at) f.w (l + left) count₀ T₁ (cursor at count false) x f.low refl g.rows refl f.state)))
 
-  sink : r₁ ≡ Deep → Acts (items_left m s l (drop at₀ s) [] at₀ w₀) (l + left) count₀ [] (log w₀) T₀ T₁ Deep
+  sink : r₁ ≡ Err Deep → Acts (items_left m s l (drop at₀ s) [] at₀ w₀) (l + left) count₀ [] (log w₀) T₀ T₁ (Err Deep)
   sink q =
       let y = (a.acting l).doing.acts g.w g.state g.low in
       let o = parse (rules s) m l (here s at) g.w in
-      g.back T₁ Deep
+      g.back T₁ (Err Deep)
       (acts_deep (l + left) count₀ (items_left m s l g.fuel g.acc at g.w)
       (omega (arith, deep (l + left) count o (sym q ∙ y.answer), items_peak m s l g.fuel g.acc at g.w)))
 
 module _ {m : Parser} {s : List ℕ} {left at₀ count₀ : ℕ} {st₀ : Counts} {T₀ : Tables} {at count : ℕ} {st : Counts} {T : Tables}
     (u : Walking m s left at₀ count₀ st₀ T₀ at count st T) {T₁ : Tables} {r₁ : Done} (a : Does m s (cursor at count false) st left T T₁ r₁) where
   -- an item was read, and the loop goes on behind it
-  pub walking_less : Passes (sober m) → Passes (moves m) → (d : Cursor) (x : Counts) → r₁ ≡ Got d x → (at < d.at.0) × (d.at.0 ≤ length s)
+  pub walking_less : Passes (sober m) → Passes (moves m) → (d : Cursor) (x : Counts) → r₁ ≡ Ok (d, x) → (at < d.at.0) × (d.at.0 ≤ length s)
   walking_less t v d x q = (moved m u.fit.within (a.acting 0) v d x q, (acted m u.fit.within (a.acting 0) t d x q).within)
 
-  pub walking_more : Passes (sober m) → Passes (settled m) → Passes (moves m) → (d : Cursor) (x : Counts) → r₁ ≡ Got d x
+  pub walking_more : Passes (sober m) → Passes (settled m) → Passes (moves m) → (d : Cursor) (x : Counts) → r₁ ≡ Ok (d, x)
       → length T₁.rows ≡ length T.rows → length T₁.errors ≡ length T.errors → length T₁.requests ≡ length T.requests
       → Walking m s left at₀ count₀ st₀ T₀ d.at.0 d.count.0 x T₁
   walking_more t z v d x q i j k =
@@ -191,10 +192,10 @@ module _ {m : Parser} {s : List ℕ} {left at₀ count₀ : ℕ} {st₀ : Counts
       }
 
   -- no item fits: the loop has read what it is to read
-  pub walking_end : (met₀ : Bool) (x : Counts) → r₁ ≡ Miss x → Does (many0 m) s (cursor at₀ count₀ met₀) st₀ left T₀ T₁ (Got (cursor at count false) x)
+  pub walking_end : (met₀ : Bool) (x : Counts) → r₁ ≡ Err (Miss x) → Does (many0 m) s (cursor at₀ count₀ met₀) st₀ left T₀ T₁ (Ok (cursor at count false, x))
   walking_end met₀ x q =
       record { acting = λ l. acting_from λ w₀ p j. acts_is (items_all m s l at₀ w₀) (stop a l w₀ (u.carries l w₀ p j) x q) }
 
-  pub walking_deep : (met₀ : Bool) → r₁ ≡ Deep → Does (many0 m) s (cursor at₀ count₀ met₀) st₀ left T₀ T₁ Deep
+  pub walking_deep : (met₀ : Bool) → r₁ ≡ Err Deep → Does (many0 m) s (cursor at₀ count₀ met₀) st₀ left T₀ T₁ (Err Deep)
   walking_deep met₀ q =
       record { acting = λ l. acting_from λ w₀ p j. acts_is (items_all m s l at₀ w₀) (sink a l w₀ (u.carries l w₀ p j) q) }

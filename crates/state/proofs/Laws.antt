@@ -20,12 +20,13 @@ use Rattle.cursor.specs.Agree.{full}
 use Rattle.cursor.specs.declared.Cursor.{Cursor}
 use Rattle.cursor.proofs.Lows.{Low}
 use Rattle.state.specs.declared.State.{State as Counts}
-use Rattle.state.specs.declared.Done.{Done}
-use Rattle.state.specs.declared.Done.TheVariants.{Got, Miss}
+use Rattle.state.specs.Done.{Done}
 use Rattle.state.specs.Acts.{Tables, tables, rules, state_after, Acting, Reported}
 use Rattle.state.proofs.Agree.{Lies, acts_is, acts_ok, acts_told, acts_with, acts_got, acts_or, acts_out, acts_first}
 use Rattle.state.proofs.Reports.{told_counts, told_logged}
 use Rattle.state.proofs.Lift.{acting_from, parse_is}
+use Rattle.cursor.specs.declared.Stop.TheVariants.{Miss}
+use Rattle.std.specs.Prelude.{Ok, Err, IsErr}
 
 -- Every reading ------------------------------------------------------------
 
@@ -74,19 +75,19 @@ rule_is {s} {l} {i = i} h k a = acting_is (λ w. solves (length s) stmt l (here 
 -- Sequences and alternatives -----------------------------------------------
 
 -- nothing
-pub acting_empty : (s : List ℕ) (l lim i base : ℕ) (st : Counts) (T : Tables) → Acting empty s l lim i base st T T (Got (cursor i base false) st)
+pub acting_empty : (s : List ℕ) (l lim i base : ℕ) (st : Counts) (T : Tables) → Acting empty s l lim i base st T T (Ok (cursor i base false, st))
 acting_empty s l lim i base st T = acting_from λ w p k. acts_ok [] (here s i) w lim base T (cursor i base false) st k refl (omega arith) refl p
 
 module _ {m : Parser} {s : List ℕ} {l lim i base : ℕ} {st : Counts} {T T₁ : Tables} {r₁ : Done} (a : Acting m s l lim i base st T T₁ r₁) (n : Parser) where
   -- the first does not fit, or is too deep
-  pub seq_out : ((d : Cursor) (x : Counts) → r₁ ≡ Got d x → ⊥) → Acting (m ▸ n) s l lim i base st T T₁ r₁
+  pub seq_out : IsErr r₁ → Acting (m ▸ n) s l lim i base st T T₁ r₁
   seq_out h =
       acting_from λ w p k.
       acts_out [] (λ v q u. with (v ++◌) (parse (rules s) n l q u))
       (λ v q u. rises_with (v ++◌) u.peak (parse (rules s) n l q u) (rises s n l q u)) (omega arith) (a.doing.acts w p k) h
 
   -- the first fits, and the second answers
-  pub seq_got : (d : Cursor) (x : Counts) → r₁ ≡ Got d x → {T' : Tables} {r : Done}
+  pub seq_got : (d : Cursor) (x : Counts) → r₁ ≡ Ok (d, x) → {T' : Tables} {r : Done}
       → Acting n s l lim d.at.0 d.count.0 x T₁ T' r → Acting (m ▸ n) s l lim i base st T T' r
   seq_got d x e b =
       acting_from λ w p k.
@@ -94,23 +95,23 @@ module _ {m : Parser} {s : List ℕ} {l lim i base : ℕ} {st : Counts} {T T₁ 
       λ v u z c m o f. acts_with (parse (rules s) n l (here s d.at.0) u) v c (b.doing.acts u o f)
 
   -- the first alternative fits, or is too deep
-  pub or_first : ((x : Counts) → r₁ ≡ Miss x → ⊥) → Acting (m or n) s l lim i base st T T₁ r₁
+  pub or_first : ((x : Counts) → r₁ ≡ Err (Miss x) → ⊥) → Acting (m or n) s l lim i base st T T₁ r₁
   or_first h =
       acting_from λ w p k.
       acts_first (λ v. parse (rules s) n l (here s i) v) (λ v. rises s n l (here s i) v) (a.doing.acts w p k) h
 
   -- it does not, and the second answers
-  pub or_miss : (x : Counts) → r₁ ≡ Miss x → {T' : Tables} {r : Done} → Acting n s l lim i base x T₁ T' r → Acting (m or n) s l lim i base st T T' r
+  pub or_miss : (x : Counts) → r₁ ≡ Err (Miss x) → {T' : Tables} {r : Done} → Acting n s l lim i base x T₁ T' r → Acting (m or n) s l lim i base st T T' r
   or_miss x e b =
       acting_from λ w p k.
       acts_or [] x (λ v. parse (rules s) n l (here s i) v) (omega arith) (a.doing.acts w p k) e λ v o f. b.doing.acts v o f
 
 -- one or none
 module _ {m : Parser} {s : List ℕ} {l lim i base : ℕ} {st : Counts} {T T₁ : Tables} {r₁ : Done} (a : Acting m s l lim i base st T T₁ r₁) where
-  pub opt_first : ((x : Counts) → r₁ ≡ Miss x → ⊥) → Acting (opt m) s l lim i base st T T₁ r₁
+  pub opt_first : ((x : Counts) → r₁ ≡ Err (Miss x) → ⊥) → Acting (opt m) s l lim i base st T T₁ r₁
   opt_first h = or_first a empty h
 
-  pub opt_miss : (x : Counts) → r₁ ≡ Miss x → Acting (opt m) s l lim i base st T T₁ (Got (cursor i base false) x)
+  pub opt_miss : (x : Counts) → r₁ ≡ Err (Miss x) → Acting (opt m) s l lim i base st T T₁ (Ok (cursor i base false, x))
   opt_miss x e = or_miss a empty x e (acting_empty s l lim i base x T₁)
 
 -- nothing behind it
@@ -161,14 +162,14 @@ abbrev blamed : Rows → Error
 blamed v = record { code = 2; low = (root v).low; high = (root v).high }
 
 module _ {m : Parser} {s : List ℕ} {l lim i base : ℕ} {st : Counts} {T T₁ : Tables} {r₁ : Done} (a : Acting m s l lim i base st T T₁ r₁) where
-  pub complain_out : ((d : Cursor) (x : Counts) → r₁ ≡ Got d x → ⊥) → Acting (complain m) s l lim i base st T T₁ r₁
+  pub complain_out : IsErr r₁ → Acting (complain m) s l lim i base st T T₁ r₁
   complain_out h =
       acting_from λ w p k.
       acts_out [] (λ v q u. ok v q (reported (blamed v) u)) (λ v q u. told_rises (blamed v) v q u) (omega arith) (a.doing.acts w p k) h
 
   pub complain_got : Passes (quiet m) → Passes (rooted m) → i ≤ length s → (low : ℕ) → Yields (Low low) (scan (full s) m l (here s i))
-      → (d : Cursor) (x : Counts) → r₁ ≡ Got d x → {y : Counts} {e : List ℕ} → Reported (record { code = 2; low = low; high = d.at.0 }) x y T₁.errors e
-      → Acting (complain m) s l lim i base st T (tables T₁.rows e T₁.requests) (Got d y)
+      → (d : Cursor) (x : Counts) → r₁ ≡ Ok (d, x) → {y : Counts} {e : List ℕ} → Reported (record { code = 2; low = low; high = d.at.0 }) x y T₁.errors e
+      → Acting (complain m) s l lim i base st T (tables T₁.rows e T₁.requests) (Ok (d, y))
   unfolding full
   complain_got t root? h low lows d x q {y} {e} report =
       let x₂ : Error = record { code = 2; low = low; high = d.at.0 } in
@@ -183,13 +184,13 @@ module _ {m : Parser} {s : List ℕ} {l lim i base : ℕ} {st : Counts} {T T₁ 
       (acts_ok v place (reported x₂ u) lim base _ d y (omega (arith, reported_peak x₂ u)) refl c met (told_counts x₂ u o report)))
 
   -- what may be missing, with a report of its code where it would begin
-  pub expect_first : (c : ℕ) → ((x : Counts) → r₁ ≡ Miss x → ⊥) → Acting (expect c m) s l lim i base st T T₁ r₁
+  pub expect_first : (c : ℕ) → ((x : Counts) → r₁ ≡ Err (Miss x) → ⊥) → Acting (expect c m) s l lim i base st T T₁ r₁
   expect_first c h =
       acting_from λ w p k.
       acts_first (λ v. ok [] (here s i) (reported (error_at c i) v)) (λ v. told_rises (error_at c i) [] (here s i) v) (a.doing.acts w p k) h
 
-  pub expect_miss : (c : ℕ) (x : Counts) → r₁ ≡ Miss x → {y : Counts} {e : List ℕ} → Reported (error_at c i) x y T₁.errors e
-      → Acting (expect c m) s l lim i base st T (tables T₁.rows e T₁.requests) (Got (cursor i base false) y)
+  pub expect_miss : (c : ℕ) (x : Counts) → r₁ ≡ Err (Miss x) → {y : Counts} {e : List ℕ} → Reported (error_at c i) x y T₁.errors e
+      → Acting (expect c m) s l lim i base st T (tables T₁.rows e T₁.requests) (Ok (cursor i base false, y))
   expect_miss c x q {y} {e} report =
       acting_from λ w p k.
       acts_or [] x (λ v. ok [] (here s i) (reported (error_at c i) v)) (omega arith) (a.doing.acts w p k) q

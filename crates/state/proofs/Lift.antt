@@ -16,15 +16,15 @@ use Rattle.table.specs.Words.{HoldsRows}
 use Rattle.cursor.specs.Text.{here, cursor}
 use Rattle.cursor.specs.Agree.{full, peak_of, rows_of, Reading}
 use Rattle.cursor.specs.declared.Cursor.{Cursor}
-use Rattle.cursor.specs.declared.Read.{Read}
-use Rattle.cursor.specs.declared.Read.TheVariants.{Got as ReadGot, Miss as ReadMiss, Deep as ReadDeep}
+use Rattle.cursor.specs.Read.{Read}
 use Rattle.cursor.proofs.Agree.{found, lost, deep}
 use Rattle.state.specs.declared.State.{State as Counts}
-use Rattle.state.specs.declared.Done.{Done}
-use Rattle.state.specs.declared.Done.TheVariants.{Got, Miss, Deep}
+use Rattle.state.specs.Done.{Done}
 use Rattle.state.specs.Acts.{counts, log, Tables, tables, rules, deep_or, done_of, state_after, rows_read, Acts, Acting, Noted}
 use Rattle.state.proofs.Agree.{acts_is, acts_deep}
 use Rattle.state.proofs.Reports.{noted_counts, noted_logged}
+use Rattle.cursor.specs.declared.Stop.TheVariants.{Miss, Deep}
+use Rattle.std.specs.Prelude.{Ok, Err}
 
 -- agreement with a parser, from every state that the counts stand for
 pub acting_from : {g : Parser} {s : List ℕ} {l lim i base : ℕ} {st : Counts} {T T' : Tables} {r : Done}
@@ -48,8 +48,8 @@ Keeps lim base t t₁ o = peak_of o ≤ lim → (pre : Rows) → length pre ≡ 
 module _ {g : Parser} (u : T (quiet g)) {s : List ℕ} {l lim i base : ℕ} (h : i ≤ length s) {t t₁ : List ℕ} {r : Read}
     (a : Reading g s l lim i false base t t₁ r) {st : Counts} {e q : List ℕ} where
   module _ {st₁ : Counts} {e₁ : List ℕ} where
-    pub lift_got : (d : Cursor) → r ≡ ReadGot d → Noted (length s) d.met st st₁ e e₁
-        → Acting g s l lim i base st (tables t e q) (tables t₁ e₁ q) (Got (cursor d.at.0 d.count.0 false) st₁)
+    pub lift_got : (d : Cursor) → r ≡ Ok d → Noted (length s) d.met st st₁ e e₁
+        → Acting g s l lim i base st (tables t e q) (tables t₁ e₁ q) (Ok (cursor d.at.0 d.count.0 false, st₁))
     unfolding done_of state_after rows_read rows_of peak_of
     lift_got d z n =
         let x = found lim false base (scan (full s) g l (here s i)) d (sym z ∙ a.agrees.answer) in
@@ -62,14 +62,14 @@ module _ {g : Parser} (u : T (quiet g)) {s : List ℕ} {l lim i base : ℕ} (h :
         let d₁ = cursor x.q.at (base + length x.v) false in
         acts_is (parse_is s g u i h l w ∙ ap (λ o. applied (length s) o w) x.is)
         (record {
-          answer = ap₂ {C = Done} (λ (m o : ℕ). Got (cursor m o false) st₁) x.at x.count ∙ ap (Got d₁) (sym j)
-              ∙ sym (ap (λ b. deep_or b (Got d₁ (counts w₁))) (le-ltb lim w₁.peak y));
+          answer = ap₂ {C = Done} (λ (m o : ℕ). Ok (cursor m o false, st₁)) x.at x.count ∙ ap (λ (x : Counts). Ok (d₁, x)) (sym j)
+              ∙ sym (ap (λ b. deep_or b (Ok (d₁, counts w₁))) (le-ltb lim w₁.peak y));
           rows = λ z. kept;
           logged = λ z f. noted_logged (length s) w p x.b n₁ f;
         })
 
-    pub lift_miss : (m : Bool) → r ≡ ReadMiss m → Noted (length s) m st st₁ e e₁
-        → Acting g s l lim i base st (tables t e q) (tables t₁ e₁ q) (Miss st₁)
+    pub lift_miss : (m : Bool) → r ≡ Err (Miss m) → Noted (length s) m st st₁ e e₁
+        → Acting g s l lim i base st (tables t e q) (tables t₁ e₁ q) (Err (Miss st₁))
     unfolding done_of state_after rows_read rows_of peak_of
     lift_miss m z n =
         let x = lost lim false base (scan (full s) g l (here s i)) m (sym z ∙ a.agrees.answer) in
@@ -81,12 +81,12 @@ module _ {g : Parser} (u : T (quiet g)) {s : List ℕ} {l lim i base : ℕ} (h :
         let j : counts w₁ ≡ st₁ = noted_counts (length s) w p x.b n₁ in
         acts_is (parse_is s g u i h l w ∙ ap (λ o. applied (length s) o w) x.is)
         (record {
-          answer = ap Miss (sym j) ∙ sym (ap (λ b. deep_or b (Miss (counts w₁))) (le-ltb lim w₁.peak y));
+          answer = ap (λ (x : Counts). Err (Miss x)) (sym j) ∙ sym (ap (λ b. deep_or b (Err (Miss (counts w₁)))) (le-ltb lim w₁.peak y));
           rows = λ z. kept;
           logged = λ z f. noted_logged (length s) w p x.b n₁ f;
         })
 
-  pub lift_deep : {T' : Tables} → r ≡ ReadDeep → Acting g s l lim i base st (tables t e q) T' Deep
+  pub lift_deep : {T' : Tables} → r ≡ Err Deep → Acting g s l lim i base st (tables t e q) T' (Err Deep)
   unfolding state_after peak_of
   lift_deep z =
       let o = scan (full s) g l (here s i) in

@@ -22,13 +22,13 @@ use Rattle.cursor.specs.declared.Cursor.{Cursor}
 use Rattle.cursor.specs.declared.Skip.{Skip}
 use Rattle.cursor.proofs.Lows.{first_under}
 use Rattle.state.specs.declared.State.{State as Counts}
-use Rattle.state.specs.declared.Done.{Done}
-use Rattle.state.specs.declared.Done.TheVariants.{Got}
+use Rattle.state.specs.Done.{Done}
 use Rattle.state.specs.Acts.{counts, Log, Tables, tables, rules, state_after, rows_read, Acts, Acting, Requested}
 use Rattle.state.proofs.Agree.{Rises, peak_then, acts_is, acts_ok, acts_push, acts_told, acts_got, acts_out}
 use Rattle.state.proofs.Reports.{next_scope, numbered_counts, requested_counts, requested_logged}
 use Rattle.state.proofs.Lift.{acting_from, parse_is}
 use Rattle.state.proofs.Laws.{lies, rises}
+use Rattle.std.specs.Prelude.{Ok, IsErr}
 
 -- Where a parser's first tree begins ---------------------------------------
 
@@ -133,22 +133,22 @@ scoped_fin k i low v r u = ok (under k (suc u.scope) i low r.at v) r (numbered u
 
 module _ {m n : Parser} {s : List ℕ} {l lim i base : ℕ} {st : Counts} {T T₁ : Tables} {r₁ : Done} (a : Acting (m ▸ n) s l lim i base st T T₁ r₁) where
   -- the children do not fit, or are too deep
-  pub over_out : (k dt : ℕ) → ((d : Cursor) (x : Counts) → r₁ ≡ Got d x → ⊥) → Acting (over k dt m n) s l lim i base st T T₁ r₁
+  pub over_out : (k dt : ℕ) → IsErr r₁ → Acting (over k dt m n) s l lim i base st T T₁ r₁
   unfolding state_after
   over_out k dt h =
       acting_from λ w p j. acts_is (over_is m n s l i (over_fin k dt i) w)
       (acts_out [] (over_fin k dt i (first_low (rows_read (parse (rules s) m l (here s i) w)))) (λ v q u. omega arith) (omega arith) (a.doing.acts w p j) h)
 
-  pub scoped_out : (k : ℕ) → ((d : Cursor) (x : Counts) → r₁ ≡ Got d x → ⊥) → Acting (scoped k m n) s l lim i base st T T₁ r₁
+  pub scoped_out : (k : ℕ) → IsErr r₁ → Acting (scoped k m n) s l lim i base st T T₁ r₁
   unfolding state_after
   scoped_out k h =
       acting_from λ w p j. acts_is (over_is m n s l i (scoped_fin k i) w)
       (acts_out [] (scoped_fin k i (first_low (rows_read (parse (rules s) m l (here s i) w)))) (λ v q u. omega arith) (omega arith) (a.doing.acts w p j) h)
 
   -- they fit: a row of y rows in all, from the low of the first child
-  module _ {low : ℕ} (h : Starts m s l lim i st low) (k : ℕ) (d : Cursor) (x : Counts) (q : r₁ ≡ Got d x) (y : ℕ) (size : y + base ≡ d.count.0 + 1) {t : List ℕ} where
+  module _ {low : ℕ} (h : Starts m s l lim i st low) (k : ℕ) (d : Cursor) (x : Counts) (q : r₁ ≡ Ok (d, x)) (y : ℕ) (size : y + base ≡ d.count.0 + 1) {t : List ℕ} where
     pub over_got : (dt : ℕ) → t ≡ pushed row_width T₁.rows d.count.0 (row_record k y i low d.at.0 dt)
-        → Acting (over k dt m n) s l lim i base st T (tables t T₁.errors T₁.requests) (Got (cursor d.at.0 (d.count.0 + 1) false) x)
+        → Acting (over k dt m n) s l lim i base st T (tables t T₁.errors T₁.requests) (Ok (cursor d.at.0 (d.count.0 + 1) false, x))
     over_got dt e =
         acting_from λ w p j. acts_is (over_is m n s l i (over_fin k dt i) w)
         (acts_got s [] d x _ (omega arith) (lies s (m ▸ n) l i w) (a.doing.acts w p j) q
@@ -161,7 +161,7 @@ module _ {m n : Parser} {s : List ℕ} {l lim i base : ℕ} {st : Counts} {T T�
 
     -- the number is given now; it is the row's detail
     pub scoped_got : t ≡ pushed row_width T₁.rows d.count.0 (row_record k y i low d.at.0 (x.scope + 1))
-        → Acting (scoped k m n) s l lim i base st T (tables t T₁.errors T₁.requests) (Got (cursor d.at.0 (d.count.0 + 1) false) (next_scope x))
+        → Acting (scoped k m n) s l lim i base st T (tables t T₁.errors T₁.requests) (Ok (cursor d.at.0 (d.count.0 + 1) false, next_scope x))
     scoped_got e =
         acting_from λ w p j. acts_is (over_is m n s l i (scoped_fin k i) w)
         (acts_got s [] d x _ (omega arith) (lies s (m ▸ n) l i w) (a.doing.acts w p j) q
@@ -194,20 +194,20 @@ module _ {m n : Parser} (j b : Parser) {s : List ℕ} {l lim i base : ℕ} {st :
   name_rises : (low : ℕ) → Rises (name_fin low)
   name_rises low v r u = omega (arith, rises s j l r u, peak_then (parse (rules s) j l r u) (block_fin low v) (block_rises low v))
 
-  pub import_out : ((d : Cursor) (x : Counts) → r₁ ≡ Got d x → ⊥) → Acting (import m n j b) s l lim i base st T T₁ r₁
+  pub import_out : IsErr r₁ → Acting (import m n j b) s l lim i base st T T₁ r₁
   import_out h =
       acting_from λ w p o. acts_is (over_is m n s l i name_fin w)
       (acts_out [] _ (name_rises (first_low (rows_read (parse (rules s) m l (here s i) w)))) (omega arith) (a.doing.acts w p o) h)
 
-  module _ (d : Cursor) (x : Counts) (q : r₁ ≡ Got d x) {T₂ : Tables} {r₂ : Done} (c : Acting j s l lim d.at.0 d.count.0 x T₁ T₂ r₂) where
-    pub import_no_name : ((d : Cursor) (x : Counts) → r₂ ≡ Got d x → ⊥) → Acting (import m n j b) s l lim i base st T T₂ r₂
+  module _ (d : Cursor) (x : Counts) (q : r₁ ≡ Ok (d, x)) {T₂ : Tables} {r₂ : Done} (c : Acting j s l lim d.at.0 d.count.0 x T₁ T₂ r₂) where
+    pub import_no_name : IsErr r₂ → Acting (import m n j b) s l lim i base st T T₂ r₂
     import_no_name h =
         acting_from λ w p o. acts_is (over_is m n s l i name_fin w)
         (acts_got s [] d x _ (omega arith) (lies s (m ▸ n) l i w) (a.doing.acts w p o) q
         λ v u z k met o f. acts_out v _ (block_rises (first_low (rows_read (parse (rules s) m l (here s i) w))) v) k (c.doing.acts u o f) h)
 
-    module _ (d₂ : Cursor) (x₂ : Counts) (q₂ : r₂ ≡ Got d₂ x₂) {T₃ : Tables} {r₃ : Done} (e : Acting b s l lim d₂.at.0 d₂.count.0 x₂ T₂ T₃ r₃) where
-      pub import_no_block : ((d : Cursor) (x : Counts) → r₃ ≡ Got d x → ⊥) → Acting (import m n j b) s l lim i base st T T₃ r₃
+    module _ (d₂ : Cursor) (x₂ : Counts) (q₂ : r₂ ≡ Ok (d₂, x₂)) {T₃ : Tables} {r₃ : Done} (e : Acting b s l lim d₂.at.0 d₂.count.0 x₂ T₂ T₃ r₃) where
+      pub import_no_block : IsErr r₃ → Acting (import m n j b) s l lim i base st T T₃ r₃
       unfolding state_after
       import_no_block h =
           acting_from λ w p o. acts_is (over_is m n s l i name_fin w)
@@ -217,11 +217,11 @@ module _ {m n : Parser} (j b : Parser) {s : List ℕ} {l lim i base : ℕ} {st :
           acts_out (v ++ v₂) (import_fin (first_low (rows_read (parse (rules s) m l (here s i) w))) v v₂) (λ e z t. omega arith) k₂ (e.doing.acts u₂ o₂ f₂) h)
 
       -- the request is that of the file name's rows
-      pub import_got : {low : ℕ} → Starts m s l lim i st low → (d₃ : Cursor) (x₃ : Counts) → r₃ ≡ Got d₃ x₃ → (f : Request)
+      pub import_got : {low : ℕ} → Starts m s l lim i st low → (d₃ : Cursor) (x₃ : Counts) → r₃ ≡ Ok (d₃, x₃) → (f : Request)
           → ((w : State) (v : Rows) (u : State) → parse (rules s) j l (here s d.at.0) w ≡ ok v (here s d₂.at.0) u → request_of v ≡ f)
           → {y : Counts} {g : List ℕ} → Requested f (next_scope x₃) y T₃.requests g
           → (k : ℕ) → k + base ≡ d₃.count.0 + 1 → {t : List ℕ} → t ≡ pushed row_width T₃.rows d₃.count.0 (row_record importᵏ k i low d₃.at.0 (x₃.scope + 1))
-          → Acting (import m n j b) s l lim i base st T (tables t T₃.errors g) (Got (cursor d₃.at.0 (d₃.count.0 + 1) false) y)
+          → Acting (import m n j b) s l lim i base st T (tables t T₃.errors g) (Ok (cursor d₃.at.0 (d₃.count.0 + 1) false, y))
       import_got {low} h d₃ x₃ q₃ f named {y} {g} req k size {t} is =
           acting_from λ w p o. acts_is (over_is m n s l i name_fin w)
           (acts_got s [] d x _ (omega arith) (lies s (m ▸ n) l i w) (a.doing.acts w p o) q

@@ -1,6 +1,6 @@
 -- What it means that a reader with the state agrees with what a parser does. The code keeps counts of errors and requests, the written reading
 -- the errors and requests themselves: a contract speaks of every written state that the code's state stands for.
-use Rattle.std.specs.Prelude.{Bool, true, false, cond, List, [], ◌++◌, ◌≡◌, ℕ, ◌+◌, ◌*◌, ◌≤◌, ltb, length}
+use Rattle.std.specs.Prelude.{Bool, true, false, cond, List, [], ◌++◌, ◌≡◌, ℕ, ◌+◌, ◌*◌, ◌≤◌, ltb, length, Ok, Err}
 use Rattle.reading.specs.Kind.{charᵏ}
 use Rattle.reading.specs.Grammar.{Row, Rows, State, Error, Request, Reply, ok, err, Rule, Parser, Act, closed, parse}
 use Rattle.reading.specs.Reading.{reads}
@@ -9,8 +9,8 @@ use Rattle.table.specs.Words.{pushed, error_record, request_record, Holds, Holds
 use Rattle.cursor.specs.Text.{here, cursor}
 use Rattle.cursor.specs.declared.Cursor.{Cursor}
 use Rattle.state.specs.declared.State.{State as Counts}
-use Rattle.state.specs.declared.Done.{Done}
-use Rattle.state.specs.declared.Done.TheVariants.{Got, Miss, Deep}
+use Rattle.state.specs.Done.{Done}
+use Rattle.cursor.specs.declared.Stop.TheVariants.{Miss, Deep}
 
 -- States and tables --------------------------------------------------------
 
@@ -47,13 +47,13 @@ unfoldable pub rules : List ℕ → Rule → Act Rows
 rules s = reads (length s)
 
 abbrev pub deep_or : Bool → Done → Done
-deep_or true r = Deep
+deep_or true r = Err Deep
 deep_or false r = r
 
 -- the answer that a reply asks for, at a level limit, after `base` rows
 unfoldable pub done_of : ℕ → ℕ → Reply Rows → Done
-done_of lim base (ok v q w) = deep_or (ltb lim w.peak) (Got (cursor q.at (base + length v) false) (counts w))
-done_of lim base (err w) = deep_or (ltb lim w.peak) (Miss (counts w))
+done_of lim base (ok v q w) = deep_or (ltb lim w.peak) (Ok (cursor q.at (base + length v) false, counts w))
+done_of lim base (err w) = deep_or (ltb lim w.peak) (Err (Miss (counts w)))
 
 unfoldable pub state_after : Reply Rows → State
 state_after (ok v q w) = w

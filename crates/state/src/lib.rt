@@ -5,7 +5,7 @@
 ghost use Rattle.std.specs.Prelude.{◌^◌, ◌<◌};
 ghost use Rattle.state.specs.Acts.{Reported, Noted, Requested};
 
-use cursor::Cursor;
+use cursor::{Cursor, Stop};
 use table::Pos;
 
 // The last scope number, the flag that swallows the next error, and how many errors and requests there are.
@@ -17,13 +17,8 @@ pub struct State {
     pub requests: usize,
 }
 
-// A reader's answer: it fits, and ends here; it does not fit; it went deeper than the limit.
-#[derive(Clone, Copy)]
-pub enum Done {
-    Got(Cursor, State),
-    Miss(State),
-    Deep,
-}
+// The answer of a reader with the state: it fits, and ends here in this state. An attempt leaves the state too.
+pub type Done = Result<(Cursor, State), Stop<State>>;
 
 // report_error: an error that meets the flag clears it and is lost.
 pub fn report(st: State, code: usize, low: Pos, high: Pos, errors: &mut [u32]) -> State
@@ -33,18 +28,15 @@ pub fn report(st: State, code: usize, low: Pos, high: Pos, errors: &mut [u32]) -
     let n = st.errors;
     if st.swallow {
         return State {
-            scope: st.scope,
             swallow: false,
-            errors: n,
-            requests: st.requests,
+            ..st
         };
     }
     table::push_error(errors, n, code, low, high);
     State {
-        scope: st.scope,
         swallow: false,
         errors: n + 1,
-        requests: st.requests,
+        ..st
     }
 }
 
@@ -59,18 +51,15 @@ pub fn note(st: State, met: bool, end: Pos, errors: &mut [u32]) -> State
     let n = st.errors;
     if st.swallow {
         return State {
-            scope: st.scope,
             swallow: true,
-            errors: n,
-            requests: st.requests,
+            ..st
         };
     }
     table::push_error(errors, n, 1, end, end);
     State {
-        scope: st.scope,
         swallow: true,
         errors: n + 1,
-        requests: st.requests,
+        ..st
     }
 }
 
@@ -82,9 +71,7 @@ pub fn request(st: State, low: Pos, high: Pos, requests: &mut [u32]) -> State
     let n = st.requests;
     table::push_request(requests, n, low, high);
     State {
-        scope: st.scope,
-        swallow: st.swallow,
-        errors: st.errors,
         requests: n + 1,
+        ..st
     }
 }
