@@ -11,10 +11,10 @@ ghost use Rattle.expression.specs.Around.{Around};
 ghost use Rattle.expression.specs.Sign.{signed_factor, Missed, Maybe};
 ghost use Rattle.expression.specs.Path.{modified_path};
 
-use cursor::{Cursor, Read, Skip};
+use cursor::{Cursor, Read, Skip, Stop};
 use lexis::{identifier, mark, operator};
 use literal::{number, text};
-use table::{Pos, RowIndex, kind};
+use table::{Kind, Pos, RowIndex};
 
 // Parts -----------------------------------------------------------------------
 
@@ -35,7 +35,7 @@ fn around(c: Cursor, low: Pos, d: Cursor, kind: usize, detail: usize, rows: &mut
         at,
         detail,
     );
-    Read::Got(Cursor {
+    Ok(Cursor {
         at,
         count: RowIndex(n + 1),
         met: d.met,
@@ -56,13 +56,11 @@ fn sign(s: &[u8], c: Cursor, b: u8, rows: &mut [u32]) -> Cursor
     requires { Ready 4 s.now c }
     ensures { Maybe b s.now c rows.old rows.new result }
 {
-    let at = c.at;
-    let count = c.count;
     let f = mark(s, c, b, rows);
     match f {
-        Read::Got(d) => d,
-        Read::Miss(met) => Cursor { at, count, met },
-        Read::Deep => c,
+        Ok(d) => d,
+        Err(Stop::Miss(met)) => Cursor { met, ..c },
+        Err(Stop::Deep) => c,
     }
 }
 
@@ -72,11 +70,8 @@ fn identifier_value(s: &[u8], c: Cursor, k: Skip, rows: &mut [u32]) -> Read
     requires skips { Skips trivia s.now c.at.0 c.met k }
     ensures { Leafs identifier_value s.now c rows.old rows.new result }
 {
-    let f = modified_path(s, c, k, rows);
-    let Read::Got(d) = f else {
-        return f;
-    };
-    around(c, c.at, d, kind::IDENTIFIER, 0, rows)
+    let d = modified_path(s, c, k, rows)?;
+    around(c, c.at, d, Kind::Identifier, 0, rows)
 }
 
 fn modified_path(s: &[u8], c: Cursor, k: Skip, rows: &mut [u32]) -> Read
@@ -86,11 +81,11 @@ fn modified_path(s: &[u8], c: Cursor, k: Skip, rows: &mut [u32]) -> Read
 {
     let f = operator::modifier(s, c, rows);
     match f {
-        Read::Got(d) => {
+        Ok(d) => {
             let j = trivia::trivia(s, d.at, d.met);
             identifier::path(s, d, j, rows)
         }
-        Read::Miss(met) => {
+        Err(Stop::Miss(met)) => {
             let at = c.at;
             let count = c.count;
             let low = k.at;
@@ -104,7 +99,7 @@ fn modified_path(s: &[u8], c: Cursor, k: Skip, rows: &mut [u32]) -> Read
                 rows,
             )
         }
-        Read::Deep => Read::Deep,
+        Err(Stop::Deep) => Err(Stop::Deep),
     }
 }
 
@@ -114,11 +109,8 @@ fn current_pc(s: &[u8], c: Cursor, k: Skip, rows: &mut [u32]) -> Read
     requires skips { Skips trivia s.now c.at.0 c.met k }
     ensures { Leafs current_pc s.now c rows.old rows.new result }
 {
-    let f = mark::char(s, c, k, b'*', rows);
-    let Read::Got(d) = f else {
-        return f;
-    };
-    around(c, c.at, d, kind::CURRENT_PC, 0, rows)
+    let d = mark::char(s, c, k, b'*', rows)?;
+    around(c, c.at, d, Kind::CurrentPc, 0, rows)
 }
 
 fn interpolated_string_factor(s: &[u8], c: Cursor, k: Skip, rows: &mut [u32]) -> Read
@@ -126,11 +118,8 @@ fn interpolated_string_factor(s: &[u8], c: Cursor, k: Skip, rows: &mut [u32]) ->
     requires skips { Skips trivia s.now c.at.0 c.met k }
     ensures { Leafs interpolated_string_factor s.now c rows.old rows.new result }
 {
-    let f = text::string(s, c, k, true, rows);
-    let Read::Got(d) = f else {
-        return f;
-    };
-    around(c, c.at, d, kind::STRING_FACTOR, 0, rows)
+    let d = text::string(s, c, k, true, rows)?;
+    around(c, c.at, d, Kind::StringFactor, 0, rows)
 }
 
 // The cycle ---------------------------------------------------------------------
@@ -144,10 +133,7 @@ pub fn expression(s: &[u8], c: Cursor, k: Skip, left: usize, rows: &mut [u32]) -
 {
     let base = c.count.0;
     let low = k.at.0; // where the first term begins
-    let f = expression_term(s, c, k, left, rows);
-    let Read::Got(d) = f else {
-        return f;
-    };
+    let d = expression_term(s, c, k, left, rows)?;
     let mut at = d.at.0;
     let mut count = d.count.0;
     let mut met = d.met;
@@ -163,14 +149,14 @@ pub fn expression(s: &[u8], c: Cursor, k: Skip, left: usize, rows: &mut [u32]) -
             rows,
         );
         match g {
-            Read::Got(e) => {
+            Ok(e) => {
                 let n = e.count.0;
                 at = e.at.0;
                 met = e.met;
                 table::push_row(
                     rows,
                     RowIndex(n),
-                    kind::BINARY,
+                    Kind::Binary,
                     n + 1 - base,
                     Pos(low),
                     Pos(low),
@@ -179,16 +165,14 @@ pub fn expression(s: &[u8], c: Cursor, k: Skip, left: usize, rows: &mut [u32]) -
                 );
                 count = n + 1;
             }
-            Read::Miss(m) => {
-                return Read::Got(Cursor {
+            Err(Stop::Miss(m)) => {
+                return Ok(Cursor {
                     at: Pos(at),
                     count: RowIndex(count),
                     met: m,
                 });
             }
-            Read::Deep => {
-                return Read::Deep;
-            }
+            Err(Stop::Deep) => return Err(Stop::Deep),
         }
     }
 }
@@ -199,10 +183,7 @@ fn next_term(s: &[u8], c: Cursor, left: usize, rows: &mut [u32]) -> Read
     requires { Ready 0 s.now c }
     ensures { Reads (expression_operator ▸ expression_term) s.now c left rows.old rows.new result }
 {
-    let f = operator::expression_operator(s, c, rows);
-    let Read::Got(d) = f else {
-        return f;
-    };
+    let d = operator::expression_operator(s, c, rows)?;
     let k = trivia::trivia(s, d.at, d.met);
     expression_term(s, d, k, left, rows)
 }
@@ -216,10 +197,7 @@ pub fn expression_term(s: &[u8], c: Cursor, k: Skip, left: usize, rows: &mut [u3
 {
     let base = c.count.0;
     let low = k.at.0; // where the first factor begins
-    let f = expression_factor(s, c, k, left, rows);
-    let Read::Got(d) = f else {
-        return f;
-    };
+    let d = expression_factor(s, c, k, left, rows)?;
     let mut at = d.at.0;
     let mut count = d.count.0;
     let mut met = d.met;
@@ -235,14 +213,14 @@ pub fn expression_term(s: &[u8], c: Cursor, k: Skip, left: usize, rows: &mut [u3
             rows,
         );
         match g {
-            Read::Got(e) => {
+            Ok(e) => {
                 let n = e.count.0;
                 at = e.at.0;
                 met = e.met;
                 table::push_row(
                     rows,
                     RowIndex(n),
-                    kind::BINARY,
+                    Kind::Binary,
                     n + 1 - base,
                     Pos(low),
                     Pos(low),
@@ -251,16 +229,14 @@ pub fn expression_term(s: &[u8], c: Cursor, k: Skip, left: usize, rows: &mut [u3
                 );
                 count = n + 1;
             }
-            Read::Miss(m) => {
-                return Read::Got(Cursor {
+            Err(Stop::Miss(m)) => {
+                return Ok(Cursor {
                     at: Pos(at),
                     count: RowIndex(count),
                     met: m,
                 });
             }
-            Read::Deep => {
-                return Read::Deep;
-            }
+            Err(Stop::Deep) => return Err(Stop::Deep),
         }
     }
 }
@@ -271,10 +247,7 @@ fn next_factor(s: &[u8], c: Cursor, left: usize, rows: &mut [u32]) -> Read
     requires { Ready 0 s.now c }
     ensures { Reads (term_operator ▸ expression_factor) s.now c left rows.old rows.new result }
 {
-    let f = operator::term_operator(s, c, rows);
-    let Read::Got(d) = f else {
-        return f;
-    };
+    let d = operator::term_operator(s, c, rows)?;
     let k = trivia::trivia(s, d.at, d.met);
     expression_factor(s, d, k, left, rows)
 }
@@ -286,7 +259,6 @@ pub fn expression_factor(s: &[u8], c: Cursor, k: Skip, left: usize, rows: &mut [
     requires skips { Skips trivia s.now c.at.0 c.met k }
     ensures { Reads expression_factor s.now c left rows.old rows.new result }
 {
-    let at = c.at;
     let count = c.count;
     let low = k.at;
     let f = expression_factor_inner(
@@ -301,15 +273,9 @@ pub fn expression_factor(s: &[u8], c: Cursor, k: Skip, left: usize, rows: &mut [
         rows,
     );
     match f {
-        Read::Got(d) => around(c, low, d, kind::FACTOR, 0, rows),
-        Read::Miss(met) => signed(
-            s,
-            Cursor { at, count, met },
-            Skip { at: low, met },
-            left,
-            rows,
-        ),
-        Read::Deep => Read::Deep,
+        Ok(d) => around(c, low, d, Kind::Factor, 0, rows),
+        Err(Stop::Miss(met)) => signed(s, Cursor { met, ..c }, Skip { met, ..k }, left, rows),
+        Err(Stop::Deep) => Err(Stop::Deep),
     }
 }
 
@@ -335,15 +301,12 @@ fn signed(s: &[u8], c: Cursor, k: Skip, left: usize, rows: &mut [u32]) -> Read
     );
     let q = sign(s, p, b'-', rows);
     if q.count.0 == count.0 {
-        return Read::Miss(q.met);
+        return Err(Stop::Miss(q.met));
     }
     let j = trivia::trivia(s, q.at, q.met);
-    let f = expression_factor_inner(s, q, j, left, rows);
-    let Read::Got(d) = f else {
-        return f;
-    };
+    let d = expression_factor_inner(s, q, j, left, rows)?;
     let flags = p.count.0 - count.0 + 2 * (q.count.0 - p.count.0);
-    around(c, low, d, kind::FACTOR, flags, rows)
+    around(c, low, d, Kind::Factor, flags, rows)
 }
 
 // The alternatives in the Rust's order, each behind the trivia `k`. A call skips its own, since its name may come after line ends.
@@ -353,23 +316,20 @@ fn expression_factor_inner(s: &[u8], c: Cursor, k: Skip, left: usize, rows: &mut
     requires skips { Skips trivia s.now c.at.0 c.met k }
     ensures { Reads expression_factor_inner s.now c left rows.old rows.new result }
 {
-    let at = c.at;
-    let count = c.count;
-    let low = k.at;
     let f = number::number(s, c, k, rows);
-    let Read::Miss(met) = f else {
+    let Err(Stop::Miss(met)) = f else {
         return f;
     };
-    let g = fn_call(s, Cursor { at, count, met }, left, rows);
-    let Read::Miss(met) = g else {
+    let g = fn_call(s, Cursor { met, ..c }, left, rows);
+    let Err(Stop::Miss(met)) = g else {
         return g;
     };
     others(
         s,
-        Cursor { at, count, met },
+        Cursor { met, ..c },
         Skip {
-            at: low,
             met: k.met | met,
+            ..k
         },
         left,
         rows,
@@ -383,44 +343,41 @@ fn others(s: &[u8], c: Cursor, k: Skip, left: usize, rows: &mut [u32]) -> Read
     requires skips { Skips trivia s.now c.at.0 c.met k }
     ensures { Reads (identifier_value or current_pc or expression_parens or interpolated_string_factor) s.now c left rows.old rows.new result }
 {
-    let at = c.at;
-    let count = c.count;
-    let low = k.at;
     let f = identifier_value(s, c, k, rows);
-    let Read::Miss(met) = f else {
+    let Err(Stop::Miss(met)) = f else {
         return f;
     };
     let g = current_pc(
         s,
-        Cursor { at, count, met },
+        Cursor { met, ..c },
         Skip {
-            at: low,
             met: k.met | met,
+            ..k
         },
         rows,
     );
-    let Read::Miss(met) = g else {
+    let Err(Stop::Miss(met)) = g else {
         return g;
     };
     let h = expression_parens(
         s,
-        Cursor { at, count, met },
+        Cursor { met, ..c },
         Skip {
-            at: low,
             met: k.met | met,
+            ..k
         },
         left,
         rows,
     );
-    let Read::Miss(met) = h else {
+    let Err(Stop::Miss(met)) = h else {
         return h;
     };
     interpolated_string_factor(
         s,
-        Cursor { at, count, met },
+        Cursor { met, ..c },
         Skip {
-            at: low,
             met: k.met | met,
+            ..k
         },
         rows,
     )
@@ -433,18 +390,12 @@ fn expression_parens(s: &[u8], c: Cursor, k: Skip, left: usize, rows: &mut [u32]
     requires skips { Skips trivia s.now c.at.0 c.met k }
     ensures { Reads expression_parens s.now c left rows.old rows.new result }
 {
-    let f = mark::char(s, c, k, b'(', rows);
-    let Read::Got(d) = f else {
-        return f;
-    };
+    let d = mark::char(s, c, k, b'(', rows)?;
     if left == 0 {
-        return Read::Deep;
+        return Err(Stop::Deep);
     }
-    let g = closed(s, d, left - 1, rows);
-    let Read::Got(e) = g else {
-        return g;
-    };
-    around(c, c.at, e, kind::PARENS, 0, rows)
+    let e = closed(s, d, left - 1, rows)?;
+    around(c, c.at, e, Kind::Parens, 0, rows)
 }
 
 // An expression and `)`, behind a `(`.
@@ -455,10 +406,7 @@ fn closed(s: &[u8], c: Cursor, left: usize, rows: &mut [u32]) -> Read
     ensures { Reads closed_expression s.now c left rows.old rows.new result }
 {
     let k = trivia::trivia(s, c.at, c.met);
-    let f = expression(s, c, k, left, rows);
-    let Read::Got(d) = f else {
-        return f;
-    };
+    let d = expression(s, c, k, left, rows)?;
     mark(s, d, b')', rows)
 }
 
@@ -469,15 +417,9 @@ fn fn_call(s: &[u8], c: Cursor, left: usize, rows: &mut [u32]) -> Read
     ensures { Reads fn_call s.now c left rows.old rows.new result }
 {
     let k = trivia::multiline_trivia(s, c.at, c.met);
-    let f = identifier::name(s, c, k, rows);
-    let Read::Got(d) = f else {
-        return f;
-    };
-    let g = call_parens(s, d, left, rows);
-    let Read::Got(e) = g else {
-        return g;
-    };
-    around(c, c.at, e, kind::CALL, 0, rows)
+    let d = identifier::name(s, c, k, rows)?;
+    let e = call_parens(s, d, left, rows)?;
+    around(c, c.at, e, Kind::Call, 0, rows)
 }
 
 // `(`, arguments, `)`.
@@ -486,12 +428,9 @@ pub fn call_parens(s: &[u8], c: Cursor, left: usize, rows: &mut [u32]) -> Read
     requires { Ready 0 s.now c }
     ensures { Reads call_parens s.now c left rows.old rows.new result }
 {
-    let f = mark(s, c, b'(', rows);
-    let Read::Got(d) = f else {
-        return f;
-    };
+    let d = mark(s, c, b'(', rows)?;
     if left == 0 {
-        return Read::Deep;
+        return Err(Stop::Deep);
     }
     call_args(s, d, left - 1, rows)
 }
@@ -505,13 +444,13 @@ fn call_args(s: &[u8], c: Cursor, left: usize, rows: &mut [u32]) -> Read
 {
     let f = arguments(s, c, left, rows);
     match f {
-        Read::Got(d) => mark(s, d, b')', rows),
-        Read::Miss(met) => {
+        Ok(d) => mark(s, d, b')', rows),
+        Err(Stop::Miss(met)) => {
             let at = c.at;
             let count = c.count;
             mark(s, Cursor { at, count, met }, b')', rows)
         }
-        Read::Deep => Read::Deep,
+        Err(Stop::Deep) => Err(Stop::Deep),
     }
 }
 
@@ -526,7 +465,7 @@ pub fn arguments(s: &[u8], c: Cursor, left: usize, rows: &mut [u32]) -> Read
     let mut count = c.count.0;
     let mut met = c.met;
     loop {
-        let f = argument(
+        let d = argument(
             s,
             Cursor {
                 at: Pos(at),
@@ -535,29 +474,24 @@ pub fn arguments(s: &[u8], c: Cursor, left: usize, rows: &mut [u32]) -> Read
             },
             left,
             rows,
-        );
-        let Read::Got(d) = f else {
-            return f;
-        };
+        )?;
         let g = mark(s, d, b',', rows);
         match g {
-            Read::Got(e) => {
+            Ok(e) => {
                 at = e.at.0;
                 count = e.count.0;
                 met = e.met;
             }
-            Read::Miss(m) => {
+            Err(Stop::Miss(m)) => {
                 let end = d.at.0;
                 let n = d.count.0;
-                return Read::Got(Cursor {
+                return Ok(Cursor {
                     at: Pos(end),
                     count: RowIndex(n),
                     met: m,
                 });
             }
-            Read::Deep => {
-                return Read::Deep;
-            }
+            Err(Stop::Deep) => return Err(Stop::Deep),
         }
     }
 }
@@ -573,7 +507,7 @@ fn argument(s: &[u8], c: Cursor, left: usize, rows: &mut [u32]) -> Read
     let count = c.count;
     let k = trivia::trivia(s, tlow, c.met);
     let low = k.at;
-    let f = expression(
+    let d = expression(
         s,
         Cursor {
             at: low,
@@ -583,12 +517,9 @@ fn argument(s: &[u8], c: Cursor, left: usize, rows: &mut [u32]) -> Read
         k,
         left,
         rows,
-    );
-    let Read::Got(d) = f else {
-        return f;
-    };
+    )?;
     let n = d.count.0;
     let high = d.at;
     table::place_row(rows, RowIndex(n - 1), tlow, low, high);
-    Read::Got(d)
+    Ok(d)
 }

@@ -7,19 +7,16 @@ ghost use Rattle.head.specs.Parts.{Flat};
 ghost use Rattle.head.specs.Heads.{assigned, named, varconst, label_head, define_head, parameters, macro_head};
 
 use crate::{directive, part};
-use cursor::{Cursor, Read, Skip};
+use cursor::{Cursor, Read, Skip, Stop};
 use lexis::{identifier, mark};
-use table::{Pos, RowIndex, kind};
+use table::{Kind, Pos, RowIndex};
 
 // `=` and an expression.
 fn assigned(s: &[u8], c: Cursor, left: usize, rows: &mut [u32]) -> Read
     requires { Ready 0 s.now c }
     ensures { Reads assigned s.now c left rows.old rows.new result }
 {
-    let f = part::char(s, c, b'=', rows);
-    let Read::Got(d) = f else {
-        return f;
-    };
+    let d = part::char(s, c, b'=', rows)?;
     part::expression(s, d, left, rows)
 }
 
@@ -27,10 +24,7 @@ fn named(s: &[u8], c: Cursor, left: usize, rows: &mut [u32]) -> Read
     requires { Ready 0 s.now c }
     ensures { Reads named s.now c left rows.old rows.new result }
 {
-    let f = part::name(s, c, rows);
-    let Read::Got(d) = f else {
-        return f;
-    };
+    let d = part::name(s, c, rows)?;
     assigned(s, d, left, rows)
 }
 
@@ -49,12 +43,9 @@ fn varconst(
     requires in_bounds { (1 ≤ length word.now) × (detail < 2 ^ 32) }
     ensures { Reads (varconst word.now detail) s.now c left rows.old rows.new result }
 {
-    let f = mark::word(s, c, k, word, kind::VARIABLE_TYPE, detail, rows);
-    let Read::Got(d) = f else {
-        return f;
-    };
+    let d = mark::word(s, c, k, word, Kind::VariableType, detail, rows)?;
     let g = named(s, d, left, rows);
-    part::whole(c, k, g, kind::VARIABLE_DEFINITION, rows)
+    part::whole(c, k, g, Kind::VariableDefinition, rows)
 }
 
 pub fn variable_definition(s: &[u8], c: Cursor, k: Skip, left: usize, rows: &mut [u32]) -> Read
@@ -78,12 +69,9 @@ pub fn pc_definition(s: &[u8], c: Cursor, k: Skip, left: usize, rows: &mut [u32]
     requires skips { Skips multiline_trivia s.now c.at.0 c.met k }
     ensures { Reads pc_definition s.now c left rows.old rows.new result }
 {
-    let f = mark::char(s, c, k, b'*', rows);
-    let Read::Got(d) = f else {
-        return f;
-    };
+    let d = mark::char(s, c, k, b'*', rows)?;
     let g = assigned(s, d, left, rows);
-    part::whole(c, k, g, kind::PROGRAM_COUNTER_DEFINITION, rows)
+    part::whole(c, k, g, Kind::ProgramCounterDefinition, rows)
 }
 
 pub fn macro_invocation(s: &[u8], c: Cursor, k: Skip, left: usize, rows: &mut [u32]) -> Read
@@ -91,12 +79,9 @@ pub fn macro_invocation(s: &[u8], c: Cursor, k: Skip, left: usize, rows: &mut [u
     requires skips { Skips multiline_trivia s.now c.at.0 c.met k }
     ensures { Reads macro_invocation s.now c left rows.old rows.new result }
 {
-    let f = identifier::name(s, c, k, rows);
-    let Read::Got(d) = f else {
-        return f;
-    };
+    let d = identifier::name(s, c, k, rows)?;
     let g = expression::call_parens(s, d, left, rows);
-    part::whole(c, k, g, kind::MACRO_INVOCATION, rows)
+    part::whole(c, k, g, Kind::MacroInvocation, rows)
 }
 
 // A name and a colon right behind it.
@@ -105,10 +90,7 @@ pub fn label_head(s: &[u8], c: Cursor, k: Skip, rows: &mut [u32]) -> Read
     requires skips { Skips multiline_trivia s.now c.at.0 c.met k }
     ensures { Flat label_head s.now c rows.old rows.new result }
 {
-    let f = identifier::name(s, c, k, rows);
-    let Read::Got(d) = f else {
-        return f;
-    };
+    let d = identifier::name(s, c, k, rows)?;
     let low = d.at;
     mark::char(
         s,
@@ -128,10 +110,7 @@ pub fn define_head(s: &[u8], c: Cursor, k: Skip, rows: &mut [u32]) -> Read
     requires skips { Skips multiline_trivia s.now c.at.0 c.met k }
     ensures { Flat define_head s.now c rows.old rows.new result }
 {
-    let f = directive::directive(s, c, k, b".define", rows);
-    let Read::Got(d) = f else {
-        return f;
-    };
+    let d = directive::directive(s, c, k, b".define", rows)?;
     part::name(s, d, rows)
 }
 
@@ -144,7 +123,7 @@ fn identifier_arg_list(s: &[u8], c: Cursor, rows: &mut [u32]) -> Read
     let mut count = c.count.0;
     let mut met = c.met;
     loop {
-        let f = part::name(
+        let d = part::name(
             s,
             Cursor {
                 at: Pos(at),
@@ -152,29 +131,24 @@ fn identifier_arg_list(s: &[u8], c: Cursor, rows: &mut [u32]) -> Read
                 met,
             },
             rows,
-        );
-        let Read::Got(d) = f else {
-            return f;
-        };
+        )?;
         let end = d.at;
         let n = d.count;
         let g = part::char(s, d, b',', rows);
         match g {
-            Read::Got(e) => {
+            Ok(e) => {
                 at = e.at.0;
                 count = e.count.0;
                 met = e.met;
             }
-            Read::Miss(m) => {
-                return Read::Got(Cursor {
+            Err(Stop::Miss(m)) => {
+                return Ok(Cursor {
                     at: end,
                     count: n,
                     met: m,
                 });
             }
-            Read::Deep => {
-                return Read::Deep;
-            }
+            Err(Stop::Deep) => return Err(Stop::Deep),
         }
     }
 }
@@ -184,15 +158,9 @@ fn parameters(s: &[u8], c: Cursor, rows: &mut [u32]) -> Read
     requires { Ready 0 s.now c }
     ensures { Flat parameters s.now c rows.old rows.new result }
 {
-    let f = part::char(s, c, b'(', rows);
-    let Read::Got(d) = f else {
-        return f;
-    };
+    let d = part::char(s, c, b'(', rows)?;
     let g = identifier_arg_list(s, d, rows);
-    let h = part::optional(d, g);
-    let Read::Got(e) = h else {
-        return h;
-    };
+    let e = part::optional(d, g)?;
     part::char(s, e, b')', rows)
 }
 
@@ -202,13 +170,7 @@ pub fn macro_head(s: &[u8], c: Cursor, k: Skip, rows: &mut [u32]) -> Read
     requires skips { Skips multiline_trivia s.now c.at.0 c.met k }
     ensures { Flat macro_head s.now c rows.old rows.new result }
 {
-    let f = directive::directive(s, c, k, b".macro", rows);
-    let Read::Got(d) = f else {
-        return f;
-    };
-    let g = part::name(s, d, rows);
-    let Read::Got(e) = g else {
-        return g;
-    };
+    let d = directive::directive(s, c, k, b".macro", rows)?;
+    let e = part::name(s, d, rows)?;
     parameters(s, e, rows)
 }

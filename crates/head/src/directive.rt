@@ -8,9 +8,9 @@ ghost use Rattle.head.specs.Parts.{Flat};
 ghost use Rattle.head.specs.Heads.{directive_of, directive_expression, wide_size, encoded, asserted, traced};
 
 use crate::part;
-use cursor::{Cursor, Read, Skip};
+use cursor::{Cursor, Read, Skip, Stop};
 use lexis::{mark, operator};
-use table::kind;
+use table::Kind;
 
 // A word in any letter case.
 pub fn directive(s: &[u8], c: Cursor, k: Skip, word: &[u8], rows: &mut [u32]) -> Read
@@ -18,7 +18,7 @@ pub fn directive(s: &[u8], c: Cursor, k: Skip, word: &[u8], rows: &mut [u32]) ->
     requires skips { Skips multiline_trivia s.now c.at.0 c.met k }
     ensures { Flat (directive_of word.now) s.now c rows.old rows.new result }
 {
-    mark::word(s, c, k, word, kind::WORD, 0, rows)
+    mark::word(s, c, k, word, Kind::Word, 0, rows)
 }
 
 pub fn else_head(s: &[u8], c: Cursor, k: Skip, rows: &mut [u32]) -> Read
@@ -43,10 +43,7 @@ pub fn directive_expression(
     requires in_bounds { 1 ≤ length word.now }
     ensures { Reads (directive_expression word.now) s.now c left rows.old rows.new result }
 {
-    let f = directive(s, c, k, word, rows);
-    let Read::Got(d) = f else {
-        return f;
-    };
+    let d = directive(s, c, k, word, rows)?;
     part::expression(s, d, left, rows)
 }
 
@@ -56,23 +53,20 @@ fn wide_size(s: &[u8], c: Cursor, k: Skip, rows: &mut [u32]) -> Read
     requires skips { Skips multiline_trivia s.now c.at.0 c.met k }
     ensures { Flat wide_size s.now c rows.old rows.new result }
 {
-    let at = c.at;
-    let count = c.count;
-    let low = k.at;
-    let f = mark::word(s, c, k, b".word", kind::DATA_SIZE, 2, rows);
-    let Read::Miss(met) = f else {
+    let f = mark::word(s, c, k, b".word", Kind::DataSize, 2, rows);
+    let Err(Stop::Miss(met)) = f else {
         return f;
     };
     let j = Skip {
-        at: low,
         met: met | k.met,
+        ..k
     };
     mark::word(
         s,
-        Cursor { at, count, met },
+        Cursor { met, ..c },
         j,
         b".dword",
-        kind::DATA_SIZE,
+        Kind::DataSize,
         3,
         rows,
     )
@@ -84,18 +78,15 @@ pub fn data_head(s: &[u8], c: Cursor, k: Skip, rows: &mut [u32]) -> Read
     requires skips { Skips multiline_trivia s.now c.at.0 c.met k }
     ensures { Flat data_size s.now c rows.old rows.new result }
 {
-    let at = c.at;
-    let count = c.count;
-    let low = k.at;
-    let f = mark::word(s, c, k, b".byte", kind::DATA_SIZE, 1, rows);
-    let Read::Miss(met) = f else {
+    let f = mark::word(s, c, k, b".byte", Kind::DataSize, 1, rows);
+    let Err(Stop::Miss(met)) = f else {
         return f;
     };
     let j = Skip {
-        at: low,
         met: met | k.met,
+        ..k
     };
-    wide_size(s, Cursor { at, count, met }, j, rows)
+    wide_size(s, Cursor { met, ..c }, j, rows)
 }
 
 // The arguments of `.byte` and `.trace`.
@@ -112,12 +103,9 @@ pub fn align(s: &[u8], c: Cursor, k: Skip, left: usize, rows: &mut [u32]) -> Rea
     requires skips { Skips multiline_trivia s.now c.at.0 c.met k }
     ensures { Reads align s.now c left rows.old rows.new result }
 {
-    let f = directive(s, c, k, b".align", rows);
-    let Read::Got(d) = f else {
-        return f;
-    };
+    let d = directive(s, c, k, b".align", rows)?;
     let g = part::expression(s, d, left, rows);
-    part::whole(c, k, g, kind::ALIGN, rows)
+    part::whole(c, k, g, Kind::Align, rows)
 }
 
 // An encoding and an expression.
@@ -125,10 +113,7 @@ fn encoding_expression(s: &[u8], c: Cursor, left: usize, rows: &mut [u32]) -> Re
     requires { Ready 0 s.now c }
     ensures { Reads (encoding ▸ expression) s.now c left rows.old rows.new result }
 {
-    let f = operator::encoding(s, c, rows);
-    let Read::Got(d) = f else {
-        return f;
-    };
+    let d = operator::encoding(s, c, rows)?;
     part::expression(s, d, left, rows)
 }
 
@@ -137,13 +122,11 @@ fn encoded(s: &[u8], c: Cursor, left: usize, rows: &mut [u32]) -> Read
     requires { Ready 0 s.now c }
     ensures { Reads encoded s.now c left rows.old rows.new result }
 {
-    let at = c.at;
-    let count = c.count;
     let f = encoding_expression(s, c, left, rows);
-    let Read::Miss(met) = f else {
+    let Err(Stop::Miss(met)) = f else {
         return f;
     };
-    part::expression(s, Cursor { at, count, met }, left, rows)
+    part::expression(s, Cursor { met, ..c }, left, rows)
 }
 
 pub fn text(s: &[u8], c: Cursor, k: Skip, left: usize, rows: &mut [u32]) -> Read
@@ -151,12 +134,9 @@ pub fn text(s: &[u8], c: Cursor, k: Skip, left: usize, rows: &mut [u32]) -> Read
     requires skips { Skips multiline_trivia s.now c.at.0 c.met k }
     ensures { Reads text s.now c left rows.old rows.new result }
 {
-    let f = directive(s, c, k, b".text", rows);
-    let Read::Got(d) = f else {
-        return f;
-    };
+    let d = directive(s, c, k, b".text", rows)?;
     let g = encoded(s, d, left, rows);
-    part::whole(c, k, g, kind::TEXT, rows)
+    part::whole(c, k, g, Kind::Text, rows)
 }
 
 pub fn file(s: &[u8], c: Cursor, k: Skip, rows: &mut [u32]) -> Read
@@ -164,12 +144,9 @@ pub fn file(s: &[u8], c: Cursor, k: Skip, rows: &mut [u32]) -> Read
     requires skips { Skips multiline_trivia s.now c.at.0 c.met k }
     ensures { Flat file s.now c rows.old rows.new result }
 {
-    let f = directive(s, c, k, b".file", rows);
-    let Read::Got(d) = f else {
-        return f;
-    };
+    let d = directive(s, c, k, b".file", rows)?;
     let g = part::string(s, d, true, rows);
-    part::whole(c, k, g, kind::FILE, rows)
+    part::whole(c, k, g, Kind::File, rows)
 }
 
 // An expression, and a message or none.
@@ -177,10 +154,7 @@ fn asserted(s: &[u8], c: Cursor, left: usize, rows: &mut [u32]) -> Read
     requires { Ready 0 s.now c }
     ensures { Reads asserted s.now c left rows.old rows.new result }
 {
-    let f = part::expression(s, c, left, rows);
-    let Read::Got(d) = f else {
-        return f;
-    };
+    let d = part::expression(s, c, left, rows)?;
     let g = part::string(s, d, true, rows);
     part::optional(d, g)
 }
@@ -190,12 +164,9 @@ pub fn assert(s: &[u8], c: Cursor, k: Skip, left: usize, rows: &mut [u32]) -> Re
     requires skips { Skips multiline_trivia s.now c.at.0 c.met k }
     ensures { Reads assert s.now c left rows.old rows.new result }
 {
-    let f = directive(s, c, k, b".assert", rows);
-    let Read::Got(d) = f else {
-        return f;
-    };
+    let d = directive(s, c, k, b".assert", rows)?;
     let g = asserted(s, d, left, rows);
-    part::whole(c, k, g, kind::ASSERT, rows)
+    part::whole(c, k, g, Kind::Assert, rows)
 }
 
 // Arguments in parentheses, or none in them. They are no level.
@@ -203,15 +174,9 @@ fn traced(s: &[u8], c: Cursor, left: usize, rows: &mut [u32]) -> Read
     requires { Ready 0 s.now c }
     ensures { Reads traced s.now c left rows.old rows.new result }
 {
-    let f = part::char(s, c, b'(', rows);
-    let Read::Got(d) = f else {
-        return f;
-    };
+    let d = part::char(s, c, b'(', rows)?;
     let g = expression_arg_list(s, d, left, rows);
-    let h = part::optional(d, g);
-    let Read::Got(e) = h else {
-        return h;
-    };
+    let e = part::optional(d, g)?;
     part::char(s, e, b')', rows)
 }
 
@@ -220,11 +185,8 @@ pub fn trace(s: &[u8], c: Cursor, k: Skip, left: usize, rows: &mut [u32]) -> Rea
     requires skips { Skips multiline_trivia s.now c.at.0 c.met k }
     ensures { Reads trace s.now c left rows.old rows.new result }
 {
-    let f = directive(s, c, k, b".trace", rows);
-    let Read::Got(d) = f else {
-        return f;
-    };
+    let d = directive(s, c, k, b".trace", rows)?;
     let g = traced(s, d, left, rows);
     let h = part::optional(d, g);
-    part::whole(c, k, h, kind::TRACE, rows)
+    part::whole(c, k, h, Kind::Trace, rows)
 }

@@ -7,9 +7,9 @@ ghost use Rattle.head.specs.Parts.{Flat};
 ghost use Rattle.head.specs.Heads.{as_path, import_names, import_head};
 
 use crate::{directive, part};
-use cursor::{Cursor, Read, Skip};
+use cursor::{Cursor, Read, Skip, Stop};
 use lexis::mark;
-use table::{Pos, RowIndex, kind};
+use table::{Kind, Pos, RowIndex};
 
 // `as` and a path.
 fn as_path(s: &[u8], c: Cursor, rows: &mut [u32]) -> Read
@@ -17,10 +17,7 @@ fn as_path(s: &[u8], c: Cursor, rows: &mut [u32]) -> Read
     ensures { Flat as_path s.now c rows.old rows.new result }
 {
     let k = trivia::trivia(s, c.at, c.met);
-    let f = mark::word(s, c, k, b"as", kind::WORD, 0, rows);
-    let Read::Got(d) = f else {
-        return f;
-    };
+    let d = mark::word(s, c, k, b"as", Kind::Word, 0, rows)?;
     part::path(s, d, rows)
 }
 
@@ -37,10 +34,7 @@ fn path_renamed(s: &[u8], c: Cursor, rows: &mut [u32]) -> Read
     requires { Ready 0 s.now c }
     ensures { Flat (path ▸ as') s.now c rows.old rows.new result }
 {
-    let f = part::path(s, c, rows);
-    let Read::Got(d) = f else {
-        return f;
-    };
+    let d = part::path(s, c, rows)?;
     renamed(s, d, rows)
 }
 
@@ -60,7 +54,7 @@ fn specific_arg(s: &[u8], c: Cursor, rows: &mut [u32]) -> Read
         },
         rows,
     );
-    part::whole(c, k, f, kind::IMPORT_ARGUMENT, rows)
+    part::whole(c, k, f, Kind::ImportArgument, rows)
 }
 
 // Those with commas between them; the last one is read once.
@@ -72,7 +66,7 @@ fn specific_args(s: &[u8], c: Cursor, rows: &mut [u32]) -> Read
     let mut count = c.count.0;
     let mut met = c.met;
     loop {
-        let f = specific_arg(
+        let d = specific_arg(
             s,
             Cursor {
                 at: Pos(at),
@@ -80,29 +74,24 @@ fn specific_args(s: &[u8], c: Cursor, rows: &mut [u32]) -> Read
                 met,
             },
             rows,
-        );
-        let Read::Got(d) = f else {
-            return f;
-        };
+        )?;
         let end = d.at;
         let n = d.count;
         let g = part::char(s, d, b',', rows);
         match g {
-            Read::Got(e) => {
+            Ok(e) => {
                 at = e.at.0;
                 count = e.count.0;
                 met = e.met;
             }
-            Read::Miss(m) => {
-                return Read::Got(Cursor {
+            Err(Stop::Miss(m)) => {
+                return Ok(Cursor {
                     at: end,
                     count: n,
                     met: m,
                 });
             }
-            Read::Deep => {
-                return Read::Deep;
-            }
+            Err(Stop::Deep) => return Err(Stop::Deep),
         }
     }
 }
@@ -112,10 +101,7 @@ fn all(s: &[u8], c: Cursor, rows: &mut [u32]) -> Read
     requires { Ready 0 s.now c }
     ensures { Flat (char "*" ▸ as') s.now c rows.old rows.new result }
 {
-    let f = part::char(s, c, b'*', rows);
-    let Read::Got(d) = f else {
-        return f;
-    };
+    let d = part::char(s, c, b'*', rows)?;
     renamed(s, d, rows)
 }
 
@@ -123,13 +109,11 @@ fn import_args(s: &[u8], c: Cursor, rows: &mut [u32]) -> Read
     requires { Ready 0 s.now c }
     ensures { Flat import_args s.now c rows.old rows.new result }
 {
-    let at = c.at;
-    let count = c.count;
     let f = all(s, c, rows);
-    let Read::Miss(met) = f else {
+    let Err(Stop::Miss(met)) = f else {
         return f;
     };
-    specific_args(s, Cursor { at, count, met }, rows)
+    specific_args(s, Cursor { met, ..c }, rows)
 }
 
 // What is imported, and `from`.
@@ -137,13 +121,10 @@ fn import_names(s: &[u8], c: Cursor, rows: &mut [u32]) -> Read
     requires { Ready 0 s.now c }
     ensures { Flat import_names s.now c rows.old rows.new result }
 {
-    let f = import_args(s, c, rows);
-    let Read::Got(d) = f else {
-        return f;
-    };
+    let d = import_args(s, c, rows)?;
     let at = d.at;
     let k = trivia::multiline_trivia(s, at, d.met);
-    mark::word(s, d, k, b"from", kind::WORD, 0, rows)
+    mark::word(s, d, k, b"from", Kind::Word, 0, rows)
 }
 
 // The directive with all that.
@@ -152,10 +133,7 @@ pub fn import_head(s: &[u8], c: Cursor, k: Skip, rows: &mut [u32]) -> Read
     requires skips { Skips multiline_trivia s.now c.at.0 c.met k }
     ensures { Flat import_head s.now c rows.old rows.new result }
 {
-    let f = directive::directive(s, c, k, b".import", rows);
-    let Read::Got(d) = f else {
-        return f;
-    };
+    let d = directive::directive(s, c, k, b".import", rows)?;
     import_names(s, d, rows)
 }
 

@@ -8,9 +8,9 @@ ghost use Rattle.head.specs.Parts.{tried};
 ghost use Rattle.head.specs.Heads.{with_operand, implied};
 
 use crate::part;
-use cursor::{Cursor, Read, Skip};
+use cursor::{Cursor, Read, Skip, Stop};
 use lexis::operator;
-use table::kind;
+use table::Kind;
 
 fn operand(s: &[u8], c: Cursor, left: usize, rows: &mut [u32]) -> Read
     requires { Ready 0 s.now c }
@@ -26,29 +26,20 @@ fn with_operand(s: &[u8], c: Cursor, k: Skip, left: usize, rows: &mut [u32]) -> 
     requires skips { Skips multiline_trivia s.now c.at.0 c.met k }
     ensures { Reads with_operand s.now c left rows.old rows.new result }
 {
-    let f = operator::mnemonic(s, c, k, false, rows);
-    let Read::Got(d) = f else {
-        return f;
-    };
+    let d = operator::mnemonic(s, c, k, false, rows)?;
     let g = operand(s, d, left, rows);
     let h = part::optional(d, g);
-    part::whole(c, k, h, kind::INSTRUCTION, rows)
+    part::whole(c, k, h, Kind::Instruction, rows)
 }
 
 // What was tried from `c` on is not read, whether it fits or not.
 fn tried(c: Cursor, f: Read) -> Read
     ensures { result ≡ tried c f }
 {
-    let at = c.at;
-    let count = c.count;
     match f {
-        Read::Got(d) => Read::Got(Cursor {
-            at,
-            count,
-            met: d.met,
-        }),
-        Read::Miss(met) => Read::Got(Cursor { at, count, met }),
-        Read::Deep => Read::Deep,
+        Ok(d) => Ok(Cursor { met: d.met, ..c }),
+        Err(Stop::Miss(met)) => Ok(Cursor { met, ..c }),
+        Err(Stop::Deep) => Err(Stop::Deep),
     }
 }
 
@@ -58,13 +49,10 @@ fn implied(s: &[u8], c: Cursor, k: Skip, left: usize, rows: &mut [u32]) -> Read
     requires skips { Skips multiline_trivia s.now c.at.0 c.met k }
     ensures { Reads implied s.now c left rows.old rows.new result }
 {
-    let f = operator::mnemonic(s, c, k, true, rows);
-    let Read::Got(d) = f else {
-        return f;
-    };
+    let d = operator::mnemonic(s, c, k, true, rows)?;
     let attempt = operand(s, d, left, rows);
     let g = tried(d, attempt);
-    part::whole(c, k, g, kind::INSTRUCTION, rows)
+    part::whole(c, k, g, Kind::Instruction, rows)
 }
 
 pub fn instruction(s: &[u8], c: Cursor, k: Skip, left: usize, rows: &mut [u32]) -> Read
@@ -72,19 +60,16 @@ pub fn instruction(s: &[u8], c: Cursor, k: Skip, left: usize, rows: &mut [u32]) 
     requires skips { Skips multiline_trivia s.now c.at.0 c.met k }
     ensures { Reads instruction s.now c left rows.old rows.new result }
 {
-    let at = c.at;
-    let count = c.count;
-    let low = k.at;
     let f = with_operand(s, c, k, left, rows);
-    let Read::Miss(met) = f else {
+    let Err(Stop::Miss(met)) = f else {
         return f;
     };
     implied(
         s,
-        Cursor { at, count, met },
+        Cursor { met, ..c },
         Skip {
-            at: low,
             met: met | k.met,
+            ..k
         },
         left,
         rows,

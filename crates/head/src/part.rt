@@ -6,7 +6,7 @@ ghost use Rattle.literal.specs.Parts.{string_of};
 ghost use Rattle.head.specs.Parts.{optional, Whole, Closable};
 ghost use Rattle.head.specs.Heads.{char_of};
 
-use cursor::{Cursor, Read, Skip};
+use cursor::{Cursor, Read, Skip, Stop};
 use lexis::{identifier, mark};
 use table::RowIndex;
 
@@ -56,12 +56,10 @@ pub fn expression(s: &[u8], c: Cursor, left: usize, rows: &mut [u32]) -> Read
 pub fn optional(c: Cursor, f: Read) -> Read
     ensures { result ≡ optional c f }
 {
-    let at = c.at;
-    let count = c.count;
-    let Read::Miss(met) = f else {
+    let Err(Stop::Miss(met)) = f else {
         return f;
     };
-    Read::Got(Cursor { at, count, met })
+    Ok(Cursor { met, ..c })
 }
 
 // The row around all that was read from `c` on, whose trivia ended at `k`, if its last part was read.
@@ -70,7 +68,7 @@ pub fn whole(c: Cursor, k: Skip, f: Read, kind: usize, rows: &mut [u32]) -> Read
     requires kind_bound { kind < 2 ^ 32 }
     ensures { Whole kind c k f rows.old rows.new result }
 {
-    let Read::Got(e) = f else {
+    let Ok(e) = f else {
         return f;
     };
     let n = e.count.0;
@@ -85,7 +83,7 @@ pub fn whole(c: Cursor, k: Skip, f: Read, kind: usize, rows: &mut [u32]) -> Read
         high,
         0,
     );
-    Read::Got(Cursor {
+    Ok(Cursor {
         at: high,
         count: RowIndex(n + 1),
         met: e.met,

@@ -16,15 +16,14 @@ use Rattle.cursor.proofs.Loops.{Repeatable, Round, Looped, looped_none, many_ste
 use Rattle.cursor.specs.Agree.{Reading}
 use Rattle.cursor.specs.Text.{cursor, skip, Skips}
 use Rattle.cursor.specs.declared.Cursor.{Cursor}
-use Rattle.cursor.specs.declared.Read.{Read}
-use Rattle.cursor.specs.declared.Read.TheVariants.{Got, Miss}
+use Rattle.cursor.specs.Read.{Read}
 use Rattle.cursor.specs.declared.Skip.{Skip}
 use Rattle.lexis.specs.Behind.{Behind, Rowed}
 use Rattle.lexis.specs.Finds.{read_of, Finds, identifier, dotted, identifiers}
-use Rattle.lexis.specs.declared.Found.{Found}
-use Rattle.lexis.specs.declared.Found.TheVariants.{At, No}
 use Rattle.lexis.proofs.Ends.{one_at, one_no, one_end, end_in, seq_at, seq_no, or_at, or_no}
 use Rattle.lexis.proofs.Marks.{behind_got, behind_no}
+use Rattle.cursor.specs.declared.Stop.TheVariants.{Miss}
+use Rattle.std.specs.Prelude.{Ok, Err, Option, Some, None}
 
 -- Signs ----------------------------------------------------------------------
 
@@ -35,25 +34,25 @@ abbrev apart : Parser
 apart = never (leaf (one alphanumeric))
 
 module _ (s : List ℕ) (i : ℕ) where
-  pub scope_end : length s ≤ i → Finds identifier_scope s i No
+  pub scope_end : length s ≤ i → Finds identifier_scope s i None
   unfolding identifier_scope
   scope_end h = seq_no apart (or_no (byte "+") (one_end (is 45) s i h) (one_end (is 43) s i h))
 
   module _ (h : i < length s) where
-    pub scope_no : eqb (get_or s i 0) 45 || eqb (get_or s i 0) 43 ≡ false → Finds identifier_scope s i No
+    pub scope_no : eqb (get_or s i 0) 45 || eqb (get_or s i 0) 43 ≡ false → Finds identifier_scope s i None
     unfolding identifier_scope
     scope_no e = seq_no apart (go (eqb (get_or s i 0) 45) (eqb (get_or s i 0) 43) refl refl e)
       where
-        go : (x y : Bool) → eqb (get_or s i 0) 45 ≡ x → eqb (get_or s i 0) 43 ≡ y → x || y ≡ false → Finds sign s i No
+        go : (x y : Bool) → eqb (get_or s i 0) 45 ≡ x → eqb (get_or s i 0) 43 ≡ y → x || y ≡ false → Finds sign s i None
         go true y p q e = absurd (subst T e tt)
         go false true p q e = absurd (subst T e tt)
         go false false p q e = or_no (byte "+") (one_no (is 45) s i h p) (one_no (is 43) s i h q)
 
-    pub scope_at : eqb (get_or s i 0) 45 || eqb (get_or s i 0) 43 ≡ true → {r : Found} → Finds apart s (i + 1) r → Finds identifier_scope s i r
+    pub scope_at : eqb (get_or s i 0) 45 || eqb (get_or s i 0) 43 ≡ true → {r : Option Pos} → Finds apart s (i + 1) r → Finds identifier_scope s i r
     unfolding identifier_scope
     scope_at e a = seq_at apart {p = record { 0 = i + 1 }} tt (go (eqb (get_or s i 0) 45) (eqb (get_or s i 0) 43) refl refl e) a
       where
-        go : (x y : Bool) → eqb (get_or s i 0) 45 ≡ x → eqb (get_or s i 0) 43 ≡ y → x || y ≡ true → Finds sign s i (At (record { 0 = i + 1 }))
+        go : (x y : Bool) → eqb (get_or s i 0) 45 ≡ x → eqb (get_or s i 0) 43 ≡ y → x || y ≡ true → Finds sign s i (Some (record { 0 = i + 1 }))
         go true y p q e = or_at (byte "+") (one_at (is 45) s i h p (record { 0 = i + 1 }) refl)
         go false true p q e = or_no (byte "+") (one_no (is 45) s i h p) (one_at (is 43) s i h q (record { 0 = i + 1 }) refl)
         go false false p q e = absurd (subst T (sym e) tt)
@@ -70,11 +69,11 @@ identifier_quiet = tt
 
 -- an identifier, and identifiers, end in the text
 module _ {s : List ℕ} {i : ℕ} (h : i ≤ length s) {p : Pos} where
-  pub identifier_in : Finds identifier s i (At p) → p.0 ≤ length s
+  pub identifier_in : Finds identifier s i (Some p) → p.0 ≤ length s
   unfolding identifier_scope identifier_name
   identifier_in a = (end_in tt tt h a).within
 
-  pub identifiers_in : Finds identifiers s i (At p) → p.0 ≤ length s
+  pub identifiers_in : Finds identifiers s i (Some p) → p.0 ≤ length s
   unfolding identifier_scope identifier_name
   identifiers_in a = (end_in tt tt h a).within
 
@@ -86,7 +85,7 @@ pub dotting_none : {s : List ℕ} {i : ℕ} → i ≤ length s → Dotting s i i
 dotting_none {s} {i} h = record { loops = λ met base t. looped_none (λ l lim. lim) dotted s i base met t h }
 
 module _ {s : List ℕ} {j i : ℕ} (u : Dotting s j i) where
-  module _ {q : Pos} (a : Finds dotted s i (At q)) where
+  module _ {q : Pos} (a : Finds dotted s i (Some q)) where
     pub dotting_step : Round s i 0 (cursor q.0 0 false)
     unfolding read_of
     dotting_step = many_step (u.loops false 0 []) (λ l lim. a.reading l lim false 0 []) dotted_repeats (cursor q.0 0 false) refl
@@ -99,14 +98,14 @@ module _ {s : List ℕ} {j i : ℕ} (u : Dotting s j i) where
         }
 
   -- no more
-  pub dotting_end : {at : ℕ} {p : Pos} → p.0 ≡ j → Finds identifier s at (At p) → Finds dotted s i No → (e : Pos) → e.0 ≡ i → Finds identifiers s at (At e)
+  pub dotting_end : {at : ℕ} {p : Pos} → p.0 ≡ j → Finds identifier s at (Some p) → Finds dotted s i None → (e : Pos) → e.0 ≡ i → Finds identifiers s at (Some e)
   unfolding read_of
   dotting_end {at} {p} z f a e y =
       record {
         reading = λ l lim met base t.
-            subst (λ (n : ℕ). Reading identifiers s l lim at met base t t (Got (cursor n base met))) (sym y)
+            subst (λ (n : ℕ). Reading identifiers s l lim at met base t t (Ok (cursor n base met))) (sym y)
             (seq_got (f.reading l lim met base t) (many0 dotted) identifier_quiet (cursor p.0 base met) refl
-            (subst (λ (n : ℕ). Reading (many0 dotted) s l lim n met base t t (Got (cursor i base met))) (sym z)
+            (subst (λ (n : ℕ). Reading (many0 dotted) s l lim n met base t t (Ok (cursor i base met))) (sym z)
             (many_end (u.loops met base t) (λ l lim. a.reading l lim met base t) met refl l lim)));
       }
 
@@ -118,11 +117,11 @@ path_quiet = tt
 
 -- behind what was skipped before, the path's own trivia and identifiers
 module _ {s : List ℕ} {c : Cursor} {k j : Skip} (x : Skips trivia s k.at.0 k.met j) {t : List ℕ} where
-  pub path_got : {p : Pos} → Finds identifiers s j.at.0 (At p) → {t' : List ℕ} {r : Read}
+  pub path_got : {p : Pos} → Finds identifiers s j.at.0 (Some p) → {t' : List ℕ} {r : Read}
       → Rowed pathᵏ 0 c (skip k.at.0 j.met) p.0 t t' r → Behind pathᵏ (always 0) identifier_path s c k t t' r
   unfolding identifier_path read_of
   path_got {p} a w = behind_got pathᵏ 0 path_quiet p.0 j.met (λ l lim. seq_skip x (a.reading l lim j.met c.count.0 t)) w
 
-  pub path_no : Finds identifiers s j.at.0 No → Behind pathᵏ (always 0) identifier_path s c k t t (Miss j.met)
+  pub path_no : Finds identifiers s j.at.0 None → Behind pathᵏ (always 0) identifier_path s c k t t (Err (Miss j.met))
   unfolding identifier_path read_of
   path_no a = behind_no pathᵏ 0 j.met λ l lim. seq_skip x (a.reading l lim j.met c.count.0 t)

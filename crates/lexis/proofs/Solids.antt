@@ -16,10 +16,10 @@ use Rattle.reading.specs.Rules.{multiline_trivia, identifier_name, name, mname, 
 use Rattle.cursor.proofs.Laws.{Moved, moved, Solid}
 use Rattle.cursor.specs.Agree.{Reading}
 use Rattle.cursor.specs.declared.Cursor.{Cursor}
-use Rattle.cursor.specs.declared.Read.{Read}
-use Rattle.cursor.specs.declared.Read.TheVariants.{Got}
+use Rattle.cursor.specs.Read.{Read}
 use Rattle.trivia.specs.Piece.{trivia_of}
 use Rattle.word.specs.Words.{modifiers, term_operators, expression_operators, encodings, mnemonic_list}
+use Rattle.std.specs.Prelude.{Ok}
 
 -- a row around what pays for it, and a word of a list
 pub node_solid : (lines : Bool) (k : ℕ) (f : Rows → ℕ) (m : Parser) → T (quiet m) → T (slim m) → (cost m).debt + 1 ≤ (cost m).gain
@@ -78,6 +78,6 @@ unfolding all_rules
 suffix_quiet = tt
 
 pub suffix_moved : {s : List ℕ} {l i lim : ℕ} {met : Bool} {n : ℕ} {t t' : List ℕ} {r : Read} (d : Cursor) → i ≤ length s
-    → Reading optional_suffix s l lim i met n t t' r → r ≡ Got d → Moved (price 0 0) s i n d
+    → Reading optional_suffix s l lim i met n t t' r → r ≡ Ok d → Moved (price 0 0) s i n d
 unfolding all_rules
 suffix_moved d h a e = moved optional_suffix tt tt d h a e

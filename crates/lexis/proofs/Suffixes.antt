@@ -12,13 +12,14 @@ use Rattle.cursor.proofs.Laws.{ready_on, reading_is, reads_leaf, seq_out, seq_go
 use Rattle.cursor.specs.Agree.{full, Leafs, Ready}
 use Rattle.cursor.specs.Text.{here, cursor, skip, Skips}
 use Rattle.cursor.specs.declared.Cursor.{Cursor}
-use Rattle.cursor.specs.declared.Read.{Read}
-use Rattle.cursor.specs.declared.Read.TheVariants.{Got, Miss}
+use Rattle.cursor.specs.Read.{Read}
 use Rattle.cursor.specs.declared.Skip.{Skip}
 use Rattle.lexis.specs.Behind.{Behind}
 use Rattle.lexis.specs.Suffix.{register, suffix}
 use Rattle.lexis.proofs.Marks.{skips_next}
 use Rattle.lexis.proofs.Solids.{char_solid}
+use Rattle.cursor.specs.declared.Stop.TheVariants.{Miss}
+use Rattle.std.specs.Prelude.{Ok, Err, IsErr}
 
 or_twice : (a b c : Bool) → (a || b) || (a || c) ≡ a || (b || c)
 or_twice true b c = refl
@@ -48,20 +49,20 @@ unfolding optional_suffix suffix register
 optional_is τ l i = ap (λ o. elseˢ o λ _. fits [] i false 0) (factored (char ",") (ws registerᵏ 1 (word "x")) (ws registerᵏ 2 (word "y")) τ l i)
 
 module _ {s : List ℕ} {c : Cursor} {t t' : List ℕ} {r : Read} (a : Leafs suffix s c t t' r) where
-  pub optional_first : ((m : Bool) → r ≡ Miss m → ⊥) → Leafs optional_suffix s c t t' r
+  pub optional_first : ((m : Bool) → r ≡ Err (Miss m) → ⊥) → Leafs optional_suffix s c t t' r
   optional_first h = record { reading = λ l lim. reading_is (optional_is (full s) l (here s c.at.0)) (opt_first (a.reading l lim) h) }
 
-  pub optional_none : (m : Bool) → r ≡ Miss m → Leafs optional_suffix s c t t' (Got (cursor c.at.0 c.count.0 m))
+  pub optional_none : (m : Bool) → r ≡ Err (Miss m) → Leafs optional_suffix s c t t' (Ok (cursor c.at.0 c.count.0 m))
   optional_none m e = record { reading = λ l lim. reading_is (optional_is (full s) l (here s c.at.0)) (opt_miss (a.reading l lim) m e) }
 
 -- the comma, and a register
 module _ {s : List ℕ} {c : Cursor} {k : Skip} (x : Skips trivia s c.at.0 c.met k) {t t₁ : List ℕ} {r₁ : Read}
     (a : Behind charᵏ (always 44) (byte ",") s c k t t₁ r₁) where
-  pub suffix_out : ((d : Cursor) → r₁ ≡ Got d → ⊥) → Leafs suffix s c t t₁ r₁
+  pub suffix_out : IsErr r₁ → Leafs suffix s c t t₁ r₁
   unfolding suffix
   suffix_out h = record { reading = λ l lim. seq_out ((a.leafs trivia x).reading l lim) register h }
 
-  module _ (d : Cursor) (e : r₁ ≡ Got d) where
+  module _ (d : Cursor) (e : r₁ ≡ Ok d) where
     pub comma_ready : Ready 4 s c → Ready 4 s d
     comma_ready h = ready_on (char_solid false 44) d h (reads_leaf 0 (a.leafs trivia x)) e
 
@@ -72,11 +73,11 @@ module _ {s : List ℕ} {c : Cursor} {k : Skip} (x : Skips trivia s c.at.0 c.met
 -- one register, or the other
 module _ {s : List ℕ} {c : Cursor} {k : Skip} (x : Skips trivia s c.at.0 c.met k) {t t₁ : List ℕ} {r₁ : Read}
     (a : Behind registerᵏ (always 1) (word "x") s c k t t₁ r₁) where
-  pub register_first : ((m : Bool) → r₁ ≡ Miss m → ⊥) → Leafs register s c t t₁ r₁
+  pub register_first : ((m : Bool) → r₁ ≡ Err (Miss m) → ⊥) → Leafs register s c t t₁ r₁
   unfolding register
   register_first h = record { reading = λ l lim. or_first ((a.leafs trivia x).reading l lim) (ws registerᵏ 2 (word "y")) h }
 
-  pub register_second : (m : Bool) → r₁ ≡ Miss m → {t' : List ℕ} {r : Read}
+  pub register_second : (m : Bool) → r₁ ≡ Err (Miss m) → {t' : List ℕ} {r : Read}
       → Behind registerᵏ (always 2) (word "y") s (cursor c.at.0 c.count.0 m) (skip k.at.0 (m || k.met)) t₁ t' r → Leafs register s c t t' r
   unfolding register
   register_second m e b =

@@ -11,8 +11,7 @@ use Rattle.cursor.proofs.Laws.{reading_to, pick_got, pick_no}
 use Rattle.cursor.specs.Agree.{Reading}
 use Rattle.cursor.specs.Word.{first_word}
 use Rattle.cursor.specs.declared.Cursor.{Cursor}
-use Rattle.cursor.specs.declared.Read.{Read}
-use Rattle.cursor.specs.declared.Read.TheVariants.{Miss}
+use Rattle.cursor.specs.Read.{Read}
 use Rattle.cursor.specs.declared.Skip.{Skip}
 use Rattle.word.proofs.Facts.{slight, picked_slight}
 use Rattle.word.specs.Words.{picked_of}
@@ -21,6 +20,8 @@ use Rattle.word.specs.declared.Picked.TheVariants.{Word, Nothing}
 use Rattle.lexis.specs.Behind.{Placed, Rowed}
 use Rattle.lexis.specs.Picks.{Chosen, Fitting}
 use Rattle.lexis.proofs.Marks.{row_fits}
+use Rattle.cursor.specs.declared.Stop.TheVariants.{Miss}
+use Rattle.std.specs.Prelude.{Err}
 
 word_is : (o : Option (ℕ × ℕ)) (n d : ℕ) → Word n d ≡ picked_of o → o ≡ some (n, d)
 unfolding picked_of
@@ -45,7 +46,7 @@ module _ (kind : ℕ) {c : Cursor} {k : Skip} {t : List ℕ} where
         };
       }
 
-  pub chosen_none : {p : Picked} → p ≡ Nothing → Chosen kind p c k t t (Miss k.met)
+  pub chosen_none : {p : Picked} → p ≡ Nothing → Chosen kind p c k t t (Err (Miss k.met))
   chosen_none e =
       record {
         picks = λ s xs h. record {
@@ -71,6 +72,6 @@ module _ (xs : List (Leaf × ℕ)) (u : T (slight xs)) {s : List ℕ} {c : Curso
       (omega (arith, x.within), omega (arith, x.low))
   fitting Nothing e = tt
 
-  pub picked_fits : (kind : ℕ) → kind < 2 ^ 32 → {p : Picked} → p ≡ picked_of (first_word xs (drop k.at.0 s))
-      → ((c.count.0 < 2 ^ 32) × (c.at.0 < 2 ^ 32) × (k.at.0 < 2 ^ 32) × (kind < 2 ^ 32)) × Fitting k.at.0 p
-  picked_fits kind i {p} e = let f = row_fits h 0 kind 0 (omega arith) i (omega arith) in ((f.0, f.1, f.2, i), fitting p e)
+  pub picked_fits : {p : Picked} → p ≡ picked_of (first_word xs (drop k.at.0 s))
+      → ((c.count.0 < 2 ^ 32) × (c.at.0 < 2 ^ 32) × (k.at.0 < 2 ^ 32)) × Fitting k.at.0 p
+  picked_fits {p} e = let f = row_fits h 0 0 (omega arith) (omega arith) in ((f.0, f.1, f.2), fitting p e)

@@ -1,5 +1,5 @@
 -- What it means that a reader, called behind trivia that was skipped, agrees with a Located value.
-use Rattle.std.specs.Prelude.{List, ◌≡◌, ℕ, ◌+◌, ◌≤◌, length}
+use Rattle.std.specs.Prelude.{List, ◌≡◌, ℕ, ◌+◌, ◌≤◌, length, Ok}
 use Rattle.reading.specs.Grammar.{Rows, Parser, node}
 use Rattle.reading.specs.Table.{row_width}
 use Rattle.table.specs.Words.{pushed, row_record}
@@ -7,8 +7,7 @@ use Rattle.cursor.specs.Text.{cursor, Skips}
 use Rattle.cursor.specs.Agree.{Ready, Leafs}
 use Rattle.cursor.specs.declared.Cursor.{Cursor}
 use Rattle.cursor.specs.declared.Skip.{Skip}
-use Rattle.cursor.specs.declared.Read.{Read}
-use Rattle.cursor.specs.declared.Read.TheVariants.{Got}
+use Rattle.cursor.specs.Read.{Read}
 
 -- whatever was skipped from c to k: a row of this kind and detail around what m reads at k
 pub record Behind (kind : ℕ) (detail : Rows → ℕ) (m : Parser) (s : List ℕ) (c : Cursor) (k : Skip) (t t' : List ℕ) (r : Read) : Type 0 where
@@ -23,4 +22,4 @@ pub record Placed (s : List ℕ) (c : Cursor) (k : Skip) : Type 0 where
 -- one row was pushed, and the answer stands behind it
 pub record Rowed (kind detail : ℕ) (c : Cursor) (k : Skip) (high : ℕ) (t t' : List ℕ) (r : Read) : Type 0 where
   pub table : t' ≡ pushed row_width t c.count.0 (row_record kind 1 c.at.0 k.at.0 high detail)
-  pub answer : r ≡ Got (cursor high (c.count.0 + 1) k.met)
+  pub answer : r ≡ Ok (cursor high (c.count.0 + 1) k.met)

@@ -6,7 +6,7 @@ use Rattle.cursor.specs.Word.{first_word}
 use Rattle.cursor.specs.Agree.{Leafs}
 use Rattle.cursor.specs.declared.Cursor.{Cursor}
 use Rattle.cursor.specs.declared.Skip.{Skip}
-use Rattle.cursor.specs.declared.Read.{Read}
+use Rattle.cursor.specs.Read.{Read}
 use Rattle.word.specs.Words.{picked_of}
 use Rattle.word.specs.declared.Picked.{Picked}
 use Rattle.word.specs.declared.Picked.TheVariants.{Word, Nothing}

@@ -6,73 +6,65 @@ ghost use Rattle.reading.specs.Rules.{identifier_name, identifier_scope, identif
 ghost use Rattle.lexis.specs.Behind.{Behind, Placed};
 ghost use Rattle.lexis.specs.Finds.{Finds, identifier, dotted, identifiers};
 
-use crate::{Found, mark};
-use cursor::{Cursor, Read, Skip};
-use table::{Pos, kind};
+use crate::mark;
+use cursor::{Cursor, Read, Skip, Stop};
+use table::{Kind, Pos};
 use trivia::class;
 
 // `-` or `+` with no letter or digit behind it.
-fn scope(s: &[u8], at: Pos) -> Found
+fn scope(s: &[u8], at: Pos) -> Option<Pos>
     ensures { Finds identifier_scope s.now at.0 result }
 {
     let i = at.0;
     if s.len() <= i {
-        return Found::No;
+        return None;
     }
     let b = s[i];
     if !((b == b'-') | (b == b'+')) {
-        return Found::No;
+        return None;
     }
     let j = i + 1;
     if s.len() <= j {
-        return Found::At(Pos(j));
+        return Some(Pos(j));
     }
     let next = s[j];
     if class::letter(next) | class::digit(next) {
-        return Found::No;
+        return None;
     }
-    Found::At(Pos(j))
+    Some(Pos(j))
 }
 
 // One of those, or a name.
-fn identifier(s: &[u8], at: Pos) -> Found
+fn identifier(s: &[u8], at: Pos) -> Option<Pos>
     ensures { Finds identifier s.now at.0 result }
 {
-    let f = scope(s, at);
-    let Found::No = f else {
-        return f;
-    };
-    mark::name_end(s, at, b'_')
+    match scope(s, at) {
+        None => mark::name_end(s, at, b'_'),
+        end => end,
+    }
 }
 
 // An identifier behind a dot.
-fn dotted(s: &[u8], at: Pos) -> Found
+fn dotted(s: &[u8], at: Pos) -> Option<Pos>
     requires { at.0 ≤ length s.now }
     ensures { Finds dotted s.now at.0 result }
 {
     if !trivia::byte_is(s, at, b'.') {
-        return Found::No;
+        return None;
     }
     identifier(s, Pos(at.0 + 1))
 }
 
 // Identifiers with dots between them.
-fn identifiers(s: &[u8], at: Pos) -> Found
+fn identifiers(s: &[u8], at: Pos) -> Option<Pos>
     requires { at.0 ≤ length s.now }
     ensures { Finds identifiers s.now at.0 result }
 {
-    let f = identifier(s, at);
-    let Found::At(p) = f else {
-        return f;
-    };
-    let mut i = p.0;
-    loop {
-        let g = dotted(s, Pos(i));
-        let Found::At(q) = g else {
-            return Found::At(Pos(i));
-        };
-        i = q.0;
+    let mut end = identifier(s, at)?;
+    while let Some(next) = dotted(s, end) {
+        end = next;
     }
+    Some(end)
 }
 
 // A name with its row.
@@ -80,7 +72,7 @@ pub fn name(s: &[u8], c: Cursor, k: Skip, rows: &mut [u32]) -> Read
     requires { Placed s.now c k }
     ensures { Behind nameᵏ (always 0) identifier_name s.now c k rows.old rows.new result }
 {
-    mark::name(s, c, k, b'_', kind::NAME, rows)
+    mark::name(s, c, k, b'_', Kind::Name, rows)
 }
 
 // A path with its row. It begins with trivia of its own, which is in the row's body.
@@ -88,16 +80,9 @@ pub fn path(s: &[u8], c: Cursor, k: Skip, rows: &mut [u32]) -> Read
     requires { Placed s.now c k }
     ensures { Behind pathᵏ (always 0) identifier_path s.now c k rows.old rows.new result }
 {
-    let low = k.at;
-    let j = trivia::trivia(s, low, k.met);
-    let at = j.at;
-    let f = identifiers(s, at);
-    let Found::At(high) = f else {
-        return Read::Miss(j.met);
+    let j = trivia::trivia(s, k.at, k.met);
+    let Some(high) = identifiers(s, j.at) else {
+        return Err(Stop::Miss(j.met));
     };
-    let past = Skip {
-        at: low,
-        met: j.met,
-    };
-    mark::row(c, past, high, kind::PATH, 0, rows)
+    mark::row(c, Skip { met: j.met, ..k }, high, Kind::Path, 0, rows)
 }

@@ -3,22 +3,22 @@ ghost use Rattle.std.specs.Prelude.{◌^◌, ◌<◌};
 ghost use Rattle.reading.specs.Byte.{is};
 ghost use Rattle.reading.specs.Grammar.{leaf, one, run0, run1, tag_no_case, ◌▸◌, always};
 ghost use Rattle.reading.specs.Kind.{charᵏ};
+ghost use Rattle.table.specs.Kinds.{kind_number};
 ghost use Rattle.trivia.specs.Class.{among, starts, goes};
 ghost use Rattle.lexis.specs.Behind.{Behind, Placed, Rowed};
 ghost use Rattle.lexis.specs.Finds.{Finds};
 
-use crate::Found;
-use cursor::{Cursor, Read, Skip};
-use table::{Pos, RowIndex, kind};
+use cursor::{Cursor, Read, Skip, Stop};
+use table::{Kind, Pos, RowIndex};
 
 // The row of what stands from `k.at` to `high`.
-pub fn row(c: Cursor, k: Skip, high: Pos, kind: usize, detail: usize, rows: &mut [u32]) -> Read
-    requires { (c.count.0 < 2 ^ 32) × (c.at.0 < 2 ^ 32) × (k.at.0 < 2 ^ 32) × (high.0 < 2 ^ 32) × (kind < 2 ^ 32) × (detail < 2 ^ 32) }
-    ensures { Rowed kind detail c k high.0 rows.old rows.new result }
+pub fn row(c: Cursor, k: Skip, high: Pos, kind: Kind, detail: usize, rows: &mut [u32]) -> Read
+    requires { (c.count.0 < 2 ^ 32) × (c.at.0 < 2 ^ 32) × (k.at.0 < 2 ^ 32) × (high.0 < 2 ^ 32) × (detail < 2 ^ 32) }
+    ensures { Rowed (kind_number kind) detail c k high.0 rows.old rows.new result }
 {
     let n = c.count.0;
     table::push_row(rows, RowIndex(n), kind, 1, c.at, k.at, high, detail);
-    Read::Got(Cursor {
+    Ok(Cursor {
         at: high,
         count: RowIndex(n + 1),
         met: k.met,
@@ -32,31 +32,29 @@ pub fn char(s: &[u8], c: Cursor, k: Skip, b: u8, rows: &mut [u32]) -> Read
 {
     let low = k.at;
     if trivia::byte_is(s, low, b) {
-        return row(c, k, Pos(low.0 + 1), kind::CHAR, b as usize, rows);
+        return row(c, k, Pos(low.0 + 1), Kind::Char, b as usize, rows);
     }
-    Read::Miss(k.met)
+    Err(Stop::Miss(k.met))
 }
 
 // Letters and digits, the first no digit, and among them the byte `also`: `_` in a name, `-` in a config key.
-pub fn name_end(s: &[u8], at: Pos, also: u8) -> Found
+pub fn name_end(s: &[u8], at: Pos, also: u8) -> Option<Pos>
     ensures { Finds (leaf (one (starts also)) ▸ leaf (run0 (goes also))) s.now at.0 result }
 {
     let e = trivia::name_end(s, at, also);
     if e.0 == at.0 {
-        return Found::No;
+        return None;
     }
-    Found::At(e)
+    Some(e)
 }
 
 // The same with its row: a name, a config key.
-pub fn name(s: &[u8], c: Cursor, k: Skip, also: u8, kind: usize, rows: &mut [u32]) -> Read
-    requires placed { Placed s.now c k }
-    requires kind_bound { kind < 2 ^ 32 }
-    ensures { Behind kind (always 0) (leaf (one (starts also)) ▸ leaf (run0 (goes also))) s.now c k rows.old rows.new result }
+pub fn name(s: &[u8], c: Cursor, k: Skip, also: u8, kind: Kind, rows: &mut [u32]) -> Read
+    requires { Placed s.now c k }
+    ensures { Behind (kind_number kind) (always 0) (leaf (one (starts also)) ▸ leaf (run0 (goes also))) s.now c k rows.old rows.new result }
 {
-    let f = name_end(s, k.at, also);
-    let Found::At(high) = f else {
-        return Read::Miss(k.met);
+    let Some(high) = name_end(s, k.at, also) else {
+        return Err(Stop::Miss(k.met));
     };
     row(c, k, high, kind, 0, rows)
 }
@@ -68,17 +66,17 @@ pub fn run(
     k: Skip,
     class: u32,
     inside: bool,
-    kind: usize,
+    kind: Kind,
     rows: &mut [u32],
 ) -> Read
     requires placed { Placed s.now c k }
-    requires class_bound { (class < 8) × (kind < 2 ^ 32) }
-    ensures { Behind kind (always 0) (leaf (run1 (among class inside))) s.now c k rows.old rows.new result }
+    requires class_bound { class < 8 }
+    ensures { Behind (kind_number kind) (always 0) (leaf (run1 (among class inside))) s.now c k rows.old rows.new result }
 {
     let low = k.at;
     let high = trivia::run_end(s, low, class, inside);
     if high.0 <= low.0 {
-        return Read::Miss(k.met);
+        return Err(Stop::Miss(k.met));
     }
     row(c, k, high, kind, 0, rows)
 }
@@ -89,17 +87,17 @@ pub fn word(
     c: Cursor,
     k: Skip,
     word: &[u8],
-    kind: usize,
+    kind: Kind,
     detail: usize,
     rows: &mut [u32],
 ) -> Read
     requires placed { Placed s.now c k }
-    requires kind_bound { (kind < 2 ^ 32) × (detail < 2 ^ 32) }
-    ensures { Behind kind (always detail) (leaf (tag_no_case word.now)) s.now c k rows.old rows.new result }
+    requires detail_bound { detail < 2 ^ 32 }
+    ensures { Behind (kind_number kind) (always detail) (leaf (tag_no_case word.now)) s.now c k rows.old rows.new result }
 {
     let low = k.at;
     if word::begins(s, low, word) {
         return row(c, k, Pos(low.0 + word.len()), kind, detail, rows);
     }
-    Read::Miss(k.met)
+    Err(Stop::Miss(k.met))
 }

@@ -6,22 +6,23 @@ ghost use Rattle.cursor.specs.Agree.{Ready, Leafs};
 ghost use Rattle.word.specs.Words.{mnemonic_list};
 ghost use Rattle.lexis.specs.Behind.{Placed};
 ghost use Rattle.lexis.specs.Picks.{Picks, Chosen, Fitting};
+ghost use Rattle.table.specs.Kinds.{kind_number};
 ghost use Rattle.lexis.specs.Suffix.{register, suffix};
 
 use crate::mark;
-use cursor::{Cursor, Read, Skip};
-use table::{Pos, kind};
+use cursor::{Cursor, Read, Skip, Stop};
+use table::{Kind, Pos};
 use word::Picked;
 
 // The row of a word that was picked at `k.at`, if one was.
-fn picked(c: Cursor, k: Skip, p: Picked, kind: usize, rows: &mut [u32]) -> Read
-    requires count_bound { (c.count.0 < 2 ^ 32) × (c.at.0 < 2 ^ 32) × (k.at.0 < 2 ^ 32) × (kind < 2 ^ 32) }
+fn picked(c: Cursor, k: Skip, p: Picked, kind: Kind, rows: &mut [u32]) -> Read
+    requires count_bound { (c.count.0 < 2 ^ 32) × (c.at.0 < 2 ^ 32) × (k.at.0 < 2 ^ 32) }
     requires fitting { Fitting k.at.0 p }
-    ensures { Chosen kind p c k rows.old rows.new result }
+    ensures { Chosen (kind_number kind) p c k rows.old rows.new result }
 {
     let low = k.at;
     let Picked::Word(n, d) = p else {
-        return Read::Miss(k.met);
+        return Err(Stop::Miss(k.met));
     };
     mark::row(c, k, Pos(low.0 + n), kind, d, rows)
 }
@@ -32,7 +33,7 @@ pub fn term_operator(s: &[u8], c: Cursor, rows: &mut [u32]) -> Read
 {
     let k = trivia::trivia(s, c.at, c.met);
     let p = word::operator::term_operator(s, k.at);
-    picked(c, k, p, kind::OPERATOR, rows)
+    picked(c, k, p, Kind::Operator, rows)
 }
 
 pub fn expression_operator(s: &[u8], c: Cursor, rows: &mut [u32]) -> Read
@@ -41,7 +42,7 @@ pub fn expression_operator(s: &[u8], c: Cursor, rows: &mut [u32]) -> Read
 {
     let k = trivia::trivia(s, c.at, c.met);
     let p = word::operator::expression_operator(s, k.at);
-    picked(c, k, p, kind::OPERATOR, rows)
+    picked(c, k, p, Kind::Operator, rows)
 }
 
 pub fn modifier(s: &[u8], c: Cursor, rows: &mut [u32]) -> Read
@@ -50,7 +51,7 @@ pub fn modifier(s: &[u8], c: Cursor, rows: &mut [u32]) -> Read
 {
     let k = trivia::trivia(s, c.at, c.met);
     let p = word::operator::modifier(s, k.at);
-    picked(c, k, p, kind::MODIFIER, rows)
+    picked(c, k, p, Kind::Modifier, rows)
 }
 
 pub fn encoding(s: &[u8], c: Cursor, rows: &mut [u32]) -> Read
@@ -59,7 +60,7 @@ pub fn encoding(s: &[u8], c: Cursor, rows: &mut [u32]) -> Read
 {
     let k = trivia::trivia(s, c.at, c.met);
     let p = word::encoding(s, k.at);
-    picked(c, k, p, kind::ENCODING, rows)
+    picked(c, k, p, Kind::Encoding, rows)
 }
 
 // A mnemonic that may have an operand, or an implied one, behind trivia that the caller skipped.
@@ -68,7 +69,7 @@ pub fn mnemonic(s: &[u8], c: Cursor, k: Skip, implied: bool, rows: &mut [u32]) -
     ensures { Picks mnemonicᵏ (mnemonic_list implied) s.now c k rows.old rows.new result }
 {
     let p = word::mnemonic::mnemonic(s, k.at, implied);
-    picked(c, k, p, kind::MNEMONIC, rows)
+    picked(c, k, p, Kind::Mnemonic, rows)
 }
 
 // `x` or `y`.
@@ -76,20 +77,16 @@ fn register(s: &[u8], c: Cursor, rows: &mut [u32]) -> Read
     requires { Ready 4 s.now c }
     ensures { Leafs register s.now c rows.old rows.new result }
 {
-    let at = c.at;
-    let n = c.count;
-    let k = trivia::trivia(s, at, c.met);
-    let low = k.at;
-    let f = mark::word(s, c, k, b"x", kind::REGISTER, 1, rows);
-    let Read::Miss(met) = f else {
-        return f;
+    let k = trivia::trivia(s, c.at, c.met);
+    let met = match mark::word(s, c, k, b"x", Kind::Register, 1, rows) {
+        Err(Stop::Miss(met)) => met,
+        read => return read,
     };
-    let again = Cursor { at, count: n, met };
     let past = Skip {
-        at: low,
         met: met | k.met,
+        ..k
     };
-    mark::word(s, again, past, b"y", kind::REGISTER, 2, rows)
+    mark::word(s, Cursor { met, ..c }, past, b"y", Kind::Register, 2, rows)
 }
 
 // A comma and a register. The written reading tries the comma twice; it is read once here.
@@ -98,10 +95,7 @@ fn suffix(s: &[u8], c: Cursor, rows: &mut [u32]) -> Read
     ensures { Leafs suffix s.now c rows.old rows.new result }
 {
     let k = trivia::trivia(s, c.at, c.met);
-    let f = mark::char(s, c, k, b',', rows);
-    let Read::Got(d) = f else {
-        return f;
-    };
+    let d = mark::char(s, c, k, b',', rows)?;
     register(s, d, rows)
 }
 
@@ -110,11 +104,8 @@ pub fn optional_suffix(s: &[u8], c: Cursor, rows: &mut [u32]) -> Read
     requires { Ready 4 s.now c }
     ensures { Leafs optional_suffix s.now c rows.old rows.new result }
 {
-    let at = c.at;
-    let n = c.count;
-    let f = suffix(s, c, rows);
-    let Read::Miss(met) = f else {
-        return f;
-    };
-    Read::Got(Cursor { at, count: n, met })
+    match suffix(s, c, rows) {
+        Err(Stop::Miss(met)) => Ok(Cursor { met, ..c }),
+        read => read,
+    }
 }

@@ -29,16 +29,16 @@ use Rattle.cursor.specs.declared.Read.TheVariants.{Got, Miss, Deep}
 use Rattle.cursor.specs.declared.Skip.{Skip}
 use Rattle.lexis.specs.Behind.{Behind, Placed, Rowed}
 use Rattle.lexis.specs.Finds.{read_of, Finds}
-use Rattle.lexis.specs.declared.Found.TheVariants.{At, No}
 use Rattle.lexis.proofs.Ends.{byte_at, end_in}
 use Rattle.lexis.proofs.Marks.{skips_again, behind_got, behind_found}
 use Rattle.literal.specs.Parts.{radix, numeral, decimals, value}
 use Rattle.literal.proofs.Solids.{value_solid}
+use Rattle.std.specs.Prelude.{Some, None}
 
 -- Leaves ---------------------------------------------------------------------
 
 -- what is not found fails, and notes nothing
-finds_fails : {g : Parser} {s : List ℕ} {i : ℕ} → Finds g s i No → (l : ℕ) → scan (full s) g l (here s i) ≡ fails false 0
+finds_fails : {g : Parser} {s : List ℕ} {i : ℕ} → Finds g s i None → (l : ℕ) → scan (full s) g l (here s i) ≡ fails false 0
 unfolding read_of
 finds_fails {g} {s} {i} a l =
     let x = lost 0 false 0 (scan (full s) g l (here s i)) false (a.reading l 0 false 0 []).agrees.answer in
@@ -146,7 +146,7 @@ pub byte_in : (b : ℕ) (s : List ℕ) (i : ℕ) → i ≤ length s → begins (
 byte_in b s i h e = (end_in tt tt h (byte_at b s i e (record { 0 = i + 1 }) refl)).within
 
 -- a numeral ends in the text
-pub numeral_in : {s : List ℕ} {i : ℕ} {p : Pos} → i ≤ length s → Finds numeral s i (At p) → p.0 ≤ length s
+pub numeral_in : {s : List ℕ} {i : ℕ} {p : Pos} → i ≤ length s → Finds numeral s i (Some p) → p.0 ≤ length s
 numeral_in h f = (end_in tt tt h f).within
 
 module _ {s : List ℕ} {c : Cursor} {k : Skip} (x : Skips trivia s c.at.0 c.met k) where
@@ -168,7 +168,7 @@ module _ {s : List ℕ} {c : Cursor} {k : Skip} (x : Skips trivia s c.at.0 c.met
             (ws number_textᵏ 0 (leaf (run1 (member class)))) tt d p ((b.leafs trivia y).reading l lim);
       }
 
-  pub decimal_leafs : {p : Pos} → Finds numeral s k.at.0 (At p) → {d : Cursor} {t t₁ t' : List ℕ} {r₁ r : Read} → c.at.0 ≤ length s
+  pub decimal_leafs : {p : Pos} → Finds numeral s k.at.0 (Some p) → {d : Cursor} {t t₁ t' : List ℕ} {r₁ r : Read} → c.at.0 ≤ length s
       → Rowed number_typeᵏ 2 c (skip c.at.0 c.met) c.at.0 t t₁ r₁ → r₁ ≡ Got d → Rowed number_textᵏ 0 d k p.0 t₁ t' r
       → Leafs decimals s c t t' r
   unfolding decimal
@@ -193,7 +193,7 @@ module _ {s : List ℕ} {c : Cursor} {k : Skip} (x : Skips trivia s c.at.0 c.met
       subst (λ (d : Cursor). Placed s d k) (sym (behind_row d a e))
       (record { ready = record { small = h.small; within = h.within; few = omega (arith, h.few) }; on = x.on; within = x.within })
 
-  pub decimal_none : Finds numeral s k.at.0 No → (t : List ℕ) → Leafs decimals s c t t (Miss k.met)
+  pub decimal_none : Finds numeral s k.at.0 None → (t : List ℕ) → Leafs decimals s c t t (Miss k.met)
   decimal_none f t =
       record {
         reading = λ l lim. bare_no decimals s l lim c.at.0 c.met c.count.0 t x.open? k.met x.noted

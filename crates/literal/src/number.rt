@@ -7,9 +7,9 @@ ghost use Rattle.cursor.specs.Text.{Skips};
 ghost use Rattle.lexis.specs.Finds.{Finds};
 ghost use Rattle.literal.specs.Parts.{radix, numeral, decimals, value};
 
-use cursor::{Cursor, Read, Skip};
+use cursor::{Cursor, Read, Skip, Stop};
 use lexis::{Found, mark};
-use table::{Pos, RowIndex, kind};
+use table::{Kind, Pos, RowIndex};
 use trivia::class;
 
 // The mark `$` or `%`, which stands behind the trivia, and digits behind trivia of their own.
@@ -19,12 +19,9 @@ fn radix(s: &[u8], c: Cursor, k: Skip, mark: u8, ty: usize, class: u32, rows: &m
     requires s_value { (begins (mark ∷ []) (drop k.at.0 s.now) ≡ true) × (class < 8) × (ty < 2 ^ 32) }
     ensures { Leafs (radix mark ty class) s.now c rows.old rows.new result }
 {
-    let f = mark::row(c, k, Pos(k.at.0 + 1), kind::NUMBER_TYPE, ty, rows);
-    let Read::Got(d) = f else {
-        return f;
-    };
+    let d = mark::row(c, k, Pos(k.at.0 + 1), Kind::NumberType, ty, rows)?;
     let j = trivia::trivia(s, d.at, d.met);
-    mark::run(s, d, j, class, true, kind::NUMBER_TEXT, rows)
+    mark::run(s, d, j, class, true, Kind::NumberText, rows)
 }
 
 // Where digits, `true` or `false` end. No end of a word is asked for.
@@ -54,24 +51,21 @@ fn decimal(s: &[u8], c: Cursor, k: Skip, rows: &mut [u32]) -> Read
 {
     let f = numeral(s, k.at);
     let Found::At(high) = f else {
-        return Read::Miss(k.met);
+        return Err(Stop::Miss(k.met));
     };
     let start = c.at;
-    let g = mark::row(
+    let d = mark::row(
         c,
         Skip {
             at: start,
             met: c.met,
         },
         start,
-        kind::NUMBER_TYPE,
+        Kind::NumberType,
         2,
         rows,
-    );
-    let Read::Got(d) = g else {
-        return g;
-    };
-    mark::row(d, k, high, kind::NUMBER_TEXT, 0, rows)
+    )?;
+    mark::row(d, k, high, Kind::NumberText, 0, rows)
 }
 
 // The type and the text. The byte behind the trivia says which alternative it is; all others miss there.
@@ -83,13 +77,7 @@ fn value(s: &[u8], c: Cursor, k: Skip, rows: &mut [u32]) -> Read
     if trivia::byte_is(s, k.at, b'$') {
         return radix(s, c, k, b'$', 1, class::HEX_DIGIT, rows);
     }
-    let at = c.at;
-    let count = c.count;
-    let d = Cursor {
-        at,
-        count,
-        met: k.met,
-    };
+    let d = Cursor { met: k.met, ..c };
     if trivia::byte_is(s, k.at, b'%') {
         return radix(s, d, k, b'%', 3, class::BINARY_DIGIT, rows);
     }
@@ -102,24 +90,21 @@ pub fn number(s: &[u8], c: Cursor, k: Skip, rows: &mut [u32]) -> Read
     requires skips { Skips trivia s.now c.at.0 c.met k }
     ensures { Leafs number s.now c rows.old rows.new result }
 {
-    let f = value(s, c, k, rows);
-    let Read::Got(d) = f else {
-        return f;
-    };
+    let d = value(s, c, k, rows)?;
     let at = c.at;
     let n = d.count.0;
     let high = d.at;
     table::push_row(
         rows,
         RowIndex(n),
-        kind::NUMBER,
+        Kind::Number,
         n + 1 - c.count.0,
         at,
         at,
         high,
         0,
     );
-    Read::Got(Cursor {
+    Ok(Cursor {
         at: high,
         count: RowIndex(n + 1),
         met: d.met,

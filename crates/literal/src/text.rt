@@ -5,9 +5,9 @@ ghost use Rattle.cursor.specs.Agree.{Ready, Leafs};
 ghost use Rattle.cursor.specs.Text.{Skips};
 ghost use Rattle.literal.specs.Parts.{item_of, string_of};
 
-use cursor::{Cursor, Read, Skip};
+use cursor::{Cursor, Read, Skip, Stop};
 use lexis::{identifier, mark};
-use table::{Pos, RowIndex, kind};
+use table::{Kind, Pos, RowIndex};
 use trivia::class;
 
 // A path in braces: only the path has a row.
@@ -18,22 +18,17 @@ fn interpolation(s: &[u8], c: Cursor, rows: &mut [u32]) -> Read
     let low = c.at;
     let met = c.met;
     if !trivia::byte_is(s, low, b'{') {
-        return Read::Miss(met);
+        return Err(Stop::Miss(met));
     }
     let at = Pos(low.0 + 1);
     let count = c.count;
-    let f = identifier::path(s, Cursor { at, count, met }, Skip { at, met }, rows);
-    let Read::Got(d) = f else {
-        return f;
-    };
+    let d = identifier::path(s, Cursor { at, count, met }, Skip { at, met }, rows)?;
     if !trivia::byte_is(s, d.at, b'}') {
-        return Read::Miss(d.met);
+        return Err(Stop::Miss(d.met));
     }
-    let n = d.count;
-    Read::Got(Cursor {
+    Ok(Cursor {
         at: Pos(d.at.0 + 1),
-        count: n,
-        met: d.met,
+        ..d
     })
 }
 
@@ -43,23 +38,22 @@ fn item(s: &[u8], c: Cursor, interpolated: bool, rows: &mut [u32]) -> Read
     ensures { Leafs (item_of interpolated) s.now c rows.old rows.new result }
 {
     let at = c.at;
-    let count = c.count;
     let f = mark::run(
         s,
         c,
         Skip { at, met: c.met },
         class::ENDS_PIECE,
         false,
-        kind::PIECE,
+        Kind::Piece,
         rows,
     );
-    let Read::Miss(m) = f else {
+    let Err(Stop::Miss(m)) = f else {
         return f;
     };
     if !interpolated {
-        return Read::Miss(m);
+        return Err(Stop::Miss(m));
     }
-    interpolation(s, Cursor { at, count, met: m }, rows)
+    interpolation(s, Cursor { met: m, ..c }, rows)
 }
 
 // All items.
@@ -71,17 +65,13 @@ fn items(s: &[u8], c: Cursor, interpolated: bool, rows: &mut [u32]) -> Read
     loop {
         let f = item(s, d, interpolated, rows);
         match f {
-            Read::Got(e) => {
-                d = e;
-            }
-            Read::Miss(m) => {
+            Ok(e) => d = e,
+            Err(Stop::Miss(m)) => {
                 let at = d.at;
                 let count = d.count;
-                return Read::Got(Cursor { at, count, met: m });
+                return Ok(Cursor { at, count, met: m });
             }
-            Read::Deep => {
-                return Read::Deep;
-            }
+            Err(Stop::Deep) => return Err(Stop::Deep),
         }
     }
 }
@@ -92,30 +82,24 @@ pub fn string(s: &[u8], c: Cursor, k: Skip, interpolated: bool, rows: &mut [u32]
     requires skips { Skips trivia s.now c.at.0 c.met k }
     ensures { Leafs (string_of interpolated) s.now c rows.old rows.new result }
 {
-    let f = mark::char(s, c, k, b'"', rows);
-    let Read::Got(d) = f else {
-        return f;
-    };
-    let g = items(s, d, interpolated, rows);
-    let Read::Got(e) = g else {
-        return g;
-    };
+    let d = mark::char(s, c, k, b'"', rows)?;
+    let e = items(s, d, interpolated, rows)?;
     if !trivia::byte_is(s, e.at, b'"') {
-        return Read::Miss(e.met);
+        return Err(Stop::Miss(e.met));
     }
     let n = e.count.0;
     let high = Pos(e.at.0 + 1);
     table::push_row(
         rows,
         RowIndex(n),
-        kind::STRING,
+        Kind::String,
         n + 1 - c.count.0,
         c.at,
         k.at,
         high,
         0,
     );
-    Read::Got(Cursor {
+    Ok(Cursor {
         at: high,
         count: RowIndex(n + 1),
         met: e.met,

@@ -7,8 +7,8 @@ ghost use Rattle.reading.specs.Rules.{mws, mchar, multiline_trivia, expression, 
 ghost use Rattle.cursor.specs.Text.{Skips};
 ghost use Rattle.cursor.specs.Agree.{Ready, Reads, Leafs};
 
-use cursor::{Cursor, Read, Skip};
-use table::kind;
+use cursor::{Cursor, Read, Skip, Stop};
+use table::Kind;
 
 // `{`, which takes a level, pairs and `}`: a block, and the token around it.
 #[cycle(config_map)]
@@ -20,19 +20,16 @@ pub fn config_map(s: &[u8], c: Cursor, left: usize, rows: &mut [u32]) -> Read
     let k = trivia::multiline_trivia(s, at, c.met);
     let low = k.at;
     let f = lexis::mark::char(s, c, k, b'{', rows);
-    let Read::Got(d) = f else {
+    let Ok(d) = f else {
         return f;
     };
     if left == 0 {
-        return Read::Deep;
+        return Err(Stop::Deep);
     }
-    let g = kvps(s, d, left - 1, rows);
-    let Read::Got(e) = g else {
-        return g;
-    };
-    let y = crate::finish(c, low, e, kind::BLOCK, 0, rows);
-    let z = crate::finish(c, low, y, kind::CONFIG, 0, rows);
-    Read::Got(z)
+    let e = kvps(s, d, left - 1, rows)?;
+    let y = crate::finish(c, low, e, Kind::Block, 0, rows);
+    let z = crate::finish(c, low, y, Kind::Config, 0, rows);
+    Ok(z)
 }
 
 // Pairs, and the closing brace.
@@ -45,17 +42,13 @@ fn kvps(s: &[u8], c: Cursor, left: usize, rows: &mut [u32]) -> Read
     loop {
         let f = kvp(s, d, left, rows);
         match f {
-            Read::Got(e) => {
-                d = e;
-            }
-            Read::Miss(met) => {
+            Ok(e) => d = e,
+            Err(Stop::Miss(met)) => {
                 let at = d.at;
                 let count = d.count;
                 return mchar(s, Cursor { at, count, met }, b'}', rows);
             }
-            Read::Deep => {
-                return Read::Deep;
-            }
+            Err(Stop::Deep) => return Err(Stop::Deep),
         }
     }
 }
@@ -69,16 +62,10 @@ pub fn kvp(s: &[u8], c: Cursor, left: usize, rows: &mut [u32]) -> Read
     let at = c.at;
     let k = trivia::multiline_trivia(s, at, c.met);
     let low = k.at;
-    let f = config_key(s, c, k, rows);
-    let Read::Got(d) = f else {
-        return f;
-    };
-    let g = assigned(s, d, left, rows);
-    let Read::Got(e) = g else {
-        return g;
-    };
-    let z = crate::finish(c, low, e, kind::CONFIG_PAIR, 0, rows);
-    Read::Got(z)
+    let d = config_key(s, c, k, rows)?;
+    let e = assigned(s, d, left, rows)?;
+    let z = crate::finish(c, low, e, Kind::ConfigPair, 0, rows);
+    Ok(z)
 }
 
 // Letters, digits and `-`, the first no digit.
@@ -87,7 +74,7 @@ fn config_key(s: &[u8], c: Cursor, k: Skip, rows: &mut [u32]) -> Read
     requires skips { Skips multiline_trivia s.now c.at.0 c.met k }
     ensures { Leafs (mws wordᵏ 0 config_key) s.now c rows.old rows.new result }
 {
-    lexis::mark::name(s, c, k, b'-', kind::WORD, rows)
+    lexis::mark::name(s, c, k, b'-', Kind::Word, rows)
 }
 
 // A byte behind trivia with line ends.
@@ -106,10 +93,7 @@ fn assigned(s: &[u8], c: Cursor, left: usize, rows: &mut [u32]) -> Read
     requires { Ready 0 s.now c }
     ensures { Reads (mchar "=" ▸ mws config_valueᵏ 0 config_value) s.now c left rows.old rows.new result }
 {
-    let f = mchar(s, c, b'=', rows);
-    let Read::Got(d) = f else {
-        return f;
-    };
+    let d = mchar(s, c, b'=', rows)?;
     value(s, d, left, rows)
 }
 
@@ -124,7 +108,7 @@ fn value(s: &[u8], c: Cursor, left: usize, rows: &mut [u32]) -> Read
     let count = c.count;
     let k = trivia::multiline_trivia(s, at, c.met);
     let low = k.at;
-    let f = config_value(
+    let d = config_value(
         s,
         Cursor {
             at: low,
@@ -133,12 +117,9 @@ fn value(s: &[u8], c: Cursor, left: usize, rows: &mut [u32]) -> Read
         },
         left,
         rows,
-    );
-    let Read::Got(d) = f else {
-        return f;
-    };
-    let z = crate::finish(c, low, d, kind::CONFIG_VALUE, 0, rows);
-    Read::Got(z)
+    )?;
+    let z = crate::finish(c, low, d, Kind::ConfigValue, 0, rows);
+    Ok(z)
 }
 
 // A map, or an expression.
@@ -148,13 +129,11 @@ fn config_value(s: &[u8], c: Cursor, left: usize, rows: &mut [u32]) -> Read
     requires le_at { 1 ≤ c.at.0 }
     ensures { Reads config_value s.now c left rows.old rows.new result }
 {
-    let at = c.at;
-    let count = c.count;
     let f = config_map(s, c, left, rows);
-    let Read::Miss(met) = f else {
+    let Err(Stop::Miss(met)) = f else {
         return f;
     };
-    expression_value(s, Cursor { at, count, met }, left, rows)
+    expression_value(s, Cursor { met, ..c }, left, rows)
 }
 
 // An expression as a token.
@@ -165,10 +144,7 @@ fn expression_value(s: &[u8], c: Cursor, left: usize, rows: &mut [u32]) -> Read
     let at = c.at;
     let k = trivia::trivia(s, at, c.met);
     let low = k.at;
-    let f = expression::expression(s, c, k, left, rows);
-    let Read::Got(d) = f else {
-        return f;
-    };
-    let z = crate::finish(c, low, d, kind::EXPRESSION, 0, rows);
-    Read::Got(z)
+    let d = expression::expression(s, c, k, left, rows)?;
+    let z = crate::finish(c, low, d, Kind::Expression, 0, rows);
+    Ok(z)
 }

@@ -10,8 +10,8 @@ ghost use Rattle.cursor.specs.Agree.{Ready, Reads, Leafs};
 ghost use Rattle.operand.specs.Parts.{addressed, closing_of};
 ghost use Rattle.operand.specs.Finish.{Spans, Finished};
 
-use cursor::{Cursor, Read, Skip};
-use table::{Pos, RowIndex, kind};
+use cursor::{Cursor, Read, Skip, Stop};
+use table::{Kind, Pos, RowIndex};
 
 pub mod config_map;
 
@@ -56,15 +56,13 @@ pub fn operand(s: &[u8], c: Cursor, k: Skip, left: usize, rows: &mut [u32]) -> R
     requires skips { Skips trivia s.now c.at.0 c.met k }
     ensures { Reads operand s.now c left rows.old rows.new result }
 {
-    let at = c.at;
-    let count = c.count;
     let low = k.at;
     let f = am_imm(s, c, k, left, rows);
-    let Read::Miss(met) = f else {
+    let Err(Stop::Miss(met)) = f else {
         return f;
     };
-    let d = Cursor { at, count, met };
-    let j = Skip { at: low, met };
+    let d = Cursor { met, ..c };
+    let j = Skip { met, ..k };
     if trivia::byte_is(s, low, b'(') {
         return in_parens(s, d, j, left, rows);
     }
@@ -78,18 +76,12 @@ fn am_imm(s: &[u8], c: Cursor, k: Skip, left: usize, rows: &mut [u32]) -> Read
     ensures { Reads am_imm s.now c left rows.old rows.new result }
 {
     let low = k.at;
-    let f = lexis::mark::char(s, c, k, b'#', rows);
-    let Read::Got(d) = f else {
-        return f;
-    };
+    let d = lexis::mark::char(s, c, k, b'#', rows)?;
     let at = d.at;
     let j = trivia::trivia(s, at, d.met);
-    let g = expression::expression(s, d, j, left, rows);
-    let Read::Got(e) = g else {
-        return g;
-    };
-    let z = finish(c, low, e, kind::OPERAND, IMMEDIATE, rows);
-    Read::Got(z)
+    let e = expression::expression(s, d, j, left, rows)?;
+    let z = finish(c, low, e, Kind::Operand, IMMEDIATE, rows);
+    Ok(z)
 }
 
 // An expression, and a suffix or none.
@@ -99,16 +91,10 @@ fn am_abs(s: &[u8], c: Cursor, k: Skip, left: usize, rows: &mut [u32]) -> Read
     ensures { Reads am_abs s.now c left rows.old rows.new result }
 {
     let low = k.at;
-    let f = expression::expression(s, c, k, left, rows);
-    let Read::Got(d) = f else {
-        return f;
-    };
-    let g = lexis::operator::optional_suffix(s, d, rows);
-    let Read::Got(e) = g else {
-        return g;
-    };
-    let z = finish(c, low, e, kind::OPERAND, ABSOLUTE_OR_ZP, rows);
-    Read::Got(z)
+    let d = expression::expression(s, c, k, left, rows)?;
+    let e = lexis::operator::optional_suffix(s, d, rows)?;
+    let z = finish(c, low, e, Kind::Operand, ABSOLUTE_OR_ZP, rows);
+    Ok(z)
 }
 
 // Where `(` stands: am_ind, am_outer_ind and am_abs. The three begin with the same bytes, and where `)` does not follow the expression,
@@ -120,31 +106,20 @@ fn in_parens(s: &[u8], c: Cursor, k: Skip, left: usize, rows: &mut [u32]) -> Rea
     ensures { Reads addressed s.now c left rows.old rows.new result }
 {
     let low = k.at;
-    let f = opened(s, c, k, left, rows);
-    let Read::Got(d) = f else {
-        return f;
-    };
-    let at = d.at;
-    let count = d.count;
+    let d = opened(s, c, k, left, rows)?;
     let g = closing(s, d, false, rows);
     match g {
-        Read::Got(e) => {
-            let h = lexis::operator::optional_suffix(s, e, rows);
-            let Read::Got(x) = h else {
-                return h;
-            };
-            let z = finish(c, low, x, kind::OPERAND, OUTER_INDIRECT, rows);
-            Read::Got(z)
+        Ok(e) => {
+            let x = lexis::operator::optional_suffix(s, e, rows)?;
+            let z = finish(c, low, x, Kind::Operand, OUTER_INDIRECT, rows);
+            Ok(z)
         }
-        Read::Miss(met) => {
-            let h = closing(s, Cursor { at, count, met }, true, rows);
-            let Read::Got(x) = h else {
-                return h;
-            };
-            let z = finish(c, low, x, kind::OPERAND, INDIRECT, rows);
-            Read::Got(z)
+        Err(Stop::Miss(met)) => {
+            let x = closing(s, Cursor { met, ..d }, true, rows)?;
+            let z = finish(c, low, x, Kind::Operand, INDIRECT, rows);
+            Ok(z)
         }
-        Read::Deep => Read::Deep,
+        Err(Stop::Deep) => Err(Stop::Deep),
     }
 }
 
@@ -154,12 +129,9 @@ fn opened(s: &[u8], c: Cursor, k: Skip, left: usize, rows: &mut [u32]) -> Read
     requires skips { Skips trivia s.now c.at.0 c.met k }
     ensures { Reads (bracket trivia 40 expression) s.now c left rows.old rows.new result }
 {
-    let f = lexis::mark::char(s, c, k, b'(', rows);
-    let Read::Got(d) = f else {
-        return f;
-    };
+    let d = lexis::mark::char(s, c, k, b'(', rows)?;
     if left == 0 {
-        return Read::Deep;
+        return Err(Stop::Deep);
     }
     let at = d.at;
     let j = trivia::trivia(s, at, d.met);
@@ -182,10 +154,7 @@ fn closing(s: &[u8], c: Cursor, suffix: bool, rows: &mut [u32]) -> Read
     ensures { Leafs (closing_of suffix) s.now c rows.old rows.new result }
 {
     if suffix {
-        let f = lexis::operator::optional_suffix(s, c, rows);
-        let Read::Got(d) = f else {
-            return f;
-        };
+        let d = lexis::operator::optional_suffix(s, c, rows)?;
         return close(s, d, rows);
     }
     close(s, c, rows)

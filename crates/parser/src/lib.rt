@@ -54,7 +54,7 @@ fn settle(
     requires { ReadSo text.now scope swallow level done rows.old errors.old requests.old }
     ensures { Meets (call text.now scope swallow level rows.old errors.old requests.old) rows.new errors.new requests.new result }
 {
-    let Done::Got(c, st) = done else {
+    let Ok((c, st)) = done else {
         clear(rows, errors, requests);
         return Answer::TooDeep(level);
     };

@@ -6,10 +6,10 @@ ghost use Rattle.state.specs.Acts.{Fit, TellsLeaf, Closes, opening};
 ghost use Rattle.statement.specs.Shapes.{mark_of};
 
 use crate::lift::lifted;
-use cursor::{Cursor, Skip};
+use cursor::{Cursor, Skip, Stop};
 use lexis::mark;
 use state::{Done, State};
-use table::{Pos, RowIndex, kind};
+use table::{Kind, Pos, RowIndex};
 
 // The byte b behind the trivia that ends at k.
 pub fn mark(
@@ -25,19 +25,7 @@ pub fn mark(
     requires skips { Skips multiline_trivia s.now c.at.0 false k }
     ensures { TellsLeaf (mark_of b) s.now c st rows.old rows.new errors.old errors.new result }
 {
-    let at = c.at;
-    let count = c.count;
-    let f = mark::char(
-        s,
-        Cursor {
-            at,
-            count,
-            met: false,
-        },
-        k,
-        b,
-        rows,
-    );
+    let f = mark::char(s, Cursor { met: false, ..c }, k, b, rows);
     lifted(s, st, f, errors)
 }
 
@@ -61,13 +49,13 @@ pub fn close(
     let k = trivia::multiline_trivia(s, at, false);
     let place = c.at.0; // before the trivia
     let r = mark(s, c, k, st, b'}', rows, errors);
-    let Done::Miss(x) = r else {
+    let Err(Stop::Miss(x)) = r else {
         return r;
     };
     table::push_row(
         rows,
         RowIndex(n),
-        kind::CHAR,
+        Kind::Char,
         1,
         tlow,
         low,
@@ -75,12 +63,12 @@ pub fn close(
         125,
     );
     let y = state::report(x, 5, Pos(place), Pos(place), errors);
-    Done::Got(
+    Ok((
         Cursor {
             at,
             count: RowIndex(n + 1),
             met: false,
         },
         y,
-    )
+    ))
 }

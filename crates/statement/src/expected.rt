@@ -7,11 +7,11 @@ ghost use Rattle.state.specs.Acts.{Fit, Tells};
 
 use crate::lift::lifted;
 use crate::{row, start};
-use cursor::{Cursor, Skip};
+use cursor::{Cursor, Skip, Stop};
 use head::directive;
 use operand::config_map;
 use state::{Done, State};
-use table::kind;
+use table::Kind;
 
 // A config map, or report 4 where it would begin.
 fn map(s: &[u8], c: Cursor, st: State, left: usize, rows: &mut [u32], errors: &mut [u32]) -> Done
@@ -19,30 +19,13 @@ fn map(s: &[u8], c: Cursor, st: State, left: usize, rows: &mut [u32], errors: &m
     ensures { Tells (expect 4 config_map) s.now c st left rows.old rows.new errors.old errors.new result }
 {
     let at = c.at;
-    let count = c.count;
-    let f = config_map::config_map(
-        s,
-        Cursor {
-            at,
-            count,
-            met: false,
-        },
-        left,
-        rows,
-    );
+    let f = config_map::config_map(s, Cursor { met: false, ..c }, left, rows);
     let r = lifted(s, st, f, errors);
-    let Done::Miss(x) = r else {
+    let Err(Stop::Miss(x)) = r else {
         return r;
     };
     let y = state::report(x, 4, at, at, errors);
-    Done::Got(
-        Cursor {
-            at,
-            count,
-            met: false,
-        },
-        y,
-    )
+    Ok((Cursor { met: false, ..c }, y))
 }
 
 pub fn definition(
@@ -58,15 +41,9 @@ pub fn definition(
     requires skips { Skips multiline_trivia s.now c.at.0 false k }
     ensures { Tells config_definition s.now c st left rows.old rows.new errors.old errors.new result }
 {
-    let f = start::define_head(s, c, k, st, rows, errors);
-    let Done::Got(d, x) = f else {
-        return f;
-    };
-    let g = map(s, d, x, left, rows, errors);
-    let Done::Got(e, y) = g else {
-        return g;
-    };
-    row::close(c, k, e, y, kind::DEFINITION, false, rows)
+    let (d, x) = start::define_head(s, c, k, st, rows, errors)?;
+    let (e, y) = map(s, d, x, left, rows, errors)?;
+    row::close(c, k, e, y, Kind::Definition, false, rows)
 }
 
 // Values, or report 3.
@@ -76,30 +53,13 @@ fn values(s: &[u8], c: Cursor, st: State, left: usize, rows: &mut [u32], errors:
     ensures { Tells (expect 3 expression_arg_list) s.now c st left rows.old rows.new errors.old errors.new result }
 {
     let at = c.at;
-    let count = c.count;
-    let f = directive::expression_arg_list(
-        s,
-        Cursor {
-            at,
-            count,
-            met: false,
-        },
-        left,
-        rows,
-    );
+    let f = directive::expression_arg_list(s, Cursor { met: false, ..c }, left, rows);
     let r = lifted(s, st, f, errors);
-    let Done::Miss(x) = r else {
+    let Err(Stop::Miss(x)) = r else {
         return r;
     };
     let y = state::report(x, 3, at, at, errors);
-    Done::Got(
-        Cursor {
-            at,
-            count,
-            met: false,
-        },
-        y,
-    )
+    Ok((Cursor { met: false, ..c }, y))
 }
 
 pub fn data(
@@ -115,13 +75,7 @@ pub fn data(
     requires skips { Skips multiline_trivia s.now c.at.0 false k }
     ensures { Tells data' s.now c st left rows.old rows.new errors.old errors.new result }
 {
-    let f = start::data_head(s, c, k, st, rows, errors);
-    let Done::Got(d, x) = f else {
-        return f;
-    };
-    let g = values(s, d, x, left, rows, errors);
-    let Done::Got(e, y) = g else {
-        return g;
-    };
-    row::close(c, k, e, y, kind::DATA, false, rows)
+    let (d, x) = start::data_head(s, c, k, st, rows, errors)?;
+    let (e, y) = values(s, d, x, left, rows, errors)?;
+    row::close(c, k, e, y, Kind::Data, false, rows)
 }

@@ -12,7 +12,7 @@ ghost use Rattle.cursor.specs.Text.{cursor};
 ghost use Rattle.state.specs.Acts.{Fit, Does, tables};
 ghost use Rattle.statement.specs.Lined.{Appends, AppendsLeaf, Lined, LinedLeaf};
 
-use cursor::Cursor;
+use cursor::{Cursor, Stop};
 use line::Stretch;
 use state::{Done, State};
 use table::{Pos, RowIndex};
@@ -48,7 +48,7 @@ fn token(
     ensures { Does (statement or error) s.now c st left (tables rows.old errors.old requests.old) (tables rows.new errors.new requests.new) result }
 {
     let r = stmt::statement(s, c, st, left, rows, errors, requests);
-    let Done::Miss(x) = r else {
+    let Err(Stop::Miss(x)) = r else {
         return r;
     };
     text::error(s, c, x, rows, errors)
@@ -136,21 +136,18 @@ fn end(
     requires on { On s.now here × Numbered s.now rows.old count }
     ensures { LinedLeaf eof s.now at.0 count st rows.old rows.new errors.old errors.new result }
 {
-    let r = eof_behind(s, at, count, st, rows, errors);
-    let Done::Got(d, x) = r else {
-        return r;
-    };
+    let (d, x) = eof_behind(s, at, count, st, rows, errors)?;
     let high = d.at;
     let n = count + d.count.0;
     line::number(s, rows, count, n, here);
-    Done::Got(
+    Ok((
         Cursor {
             at: high,
             count: RowIndex(n),
             met: false,
         },
         x,
-    )
+    ))
 }
 
 // The whole text, from a state with no errors and no requests: a Got, or a Deep. The lines of a token's rows are filled in as soon as they stand,
@@ -173,19 +170,17 @@ pub fn source_file(
     loop {
         let f = token_behind(s, Pos(at), count, state, left, rows, errors, requests);
         match f {
-            Done::Got(d, x) => {
+            Ok((d, x)) => {
                 let n = count + d.count.0;
                 here = line::number(s, rows, count, n, here);
                 at = d.at.0;
                 count = n;
                 state = x;
             }
-            Done::Miss(x) => {
+            Err(Stop::Miss(x)) => {
                 return end(s, Pos(at), count, x, here, rows, errors);
             }
-            Done::Deep => {
-                return Done::Deep;
-            }
+            Err(Stop::Deep) => return Err(Stop::Deep),
         }
     }
 }

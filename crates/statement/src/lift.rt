@@ -3,7 +3,7 @@ ghost use Rattle.std.specs.Prelude.{◌^◌, ◌≤◌, ◌<◌, length};
 ghost use Rattle.statement.specs.Shapes.{Lifted};
 ghost use Rattle.reading.specs.Table.{max_text};
 
-use cursor::{Cursor, Read};
+use cursor::{Cursor, Read, Stop};
 use state::{Done, State};
 use table::Pos;
 
@@ -13,23 +13,23 @@ pub fn lifted(s: &[u8], st: State, f: Read, errors: &mut [u32]) -> Done
     ensures { Lifted (length s.now) f st errors.old errors.new result }
 {
     match f {
-        Read::Got(d) => {
+        Ok(d) => {
             let at = d.at;
             let count = d.count;
             let x = state::note(st, d.met, Pos(s.len()), errors);
-            Done::Got(
+            Ok((
                 Cursor {
                     at,
                     count,
                     met: false,
                 },
                 x,
-            )
+            ))
         }
-        Read::Miss(met) => {
+        Err(Stop::Miss(met)) => {
             let x = state::note(st, met, Pos(s.len()), errors);
-            Done::Miss(x)
+            Err(Stop::Miss(x))
         }
-        Read::Deep => Done::Deep,
+        Err(Stop::Deep) => Err(Stop::Deep),
     }
 }

@@ -7,7 +7,7 @@ ghost use Rattle.state.specs.Acts.{Fit, Tells, TellsLeaf};
 
 use crate::expected;
 use crate::lift::lifted;
-use cursor::{Cursor, Skip};
+use cursor::{Cursor, Skip, Stop};
 use head::{definition, directive, instruction};
 use state::{Done, State};
 
@@ -24,19 +24,7 @@ fn instruct(
     requires skips { Skips multiline_trivia s.now c.at.0 false k }
     ensures { Tells instruction s.now c st left rows.old rows.new errors.old errors.new result }
 {
-    let at = c.at;
-    let count = c.count;
-    let f = instruction::instruction(
-        s,
-        Cursor {
-            at,
-            count,
-            met: false,
-        },
-        k,
-        left,
-        rows,
-    );
+    let f = instruction::instruction(s, Cursor { met: false, ..c }, k, left, rows);
     lifted(s, st, f, errors)
 }
 
@@ -53,19 +41,7 @@ fn variable(
     requires skips { Skips multiline_trivia s.now c.at.0 false k }
     ensures { Tells variable_definition s.now c st left rows.old rows.new errors.old errors.new result }
 {
-    let at = c.at;
-    let count = c.count;
-    let f = definition::variable_definition(
-        s,
-        Cursor {
-            at,
-            count,
-            met: false,
-        },
-        k,
-        left,
-        rows,
-    );
+    let f = definition::variable_definition(s, Cursor { met: false, ..c }, k, left, rows);
     lifted(s, st, f, errors)
 }
 
@@ -82,19 +58,7 @@ fn constant(
     requires skips { Skips multiline_trivia s.now c.at.0 false k }
     ensures { Tells const_definition s.now c st left rows.old rows.new errors.old errors.new result }
 {
-    let at = c.at;
-    let count = c.count;
-    let f = definition::const_definition(
-        s,
-        Cursor {
-            at,
-            count,
-            met: false,
-        },
-        k,
-        left,
-        rows,
-    );
+    let f = definition::const_definition(s, Cursor { met: false, ..c }, k, left, rows);
     lifted(s, st, f, errors)
 }
 
@@ -111,19 +75,7 @@ fn counter(
     requires skips { Skips multiline_trivia s.now c.at.0 false k }
     ensures { Tells pc_definition s.now c st left rows.old rows.new errors.old errors.new result }
 {
-    let at = c.at;
-    let count = c.count;
-    let f = definition::pc_definition(
-        s,
-        Cursor {
-            at,
-            count,
-            met: false,
-        },
-        k,
-        left,
-        rows,
-    );
+    let f = definition::pc_definition(s, Cursor { met: false, ..c }, k, left, rows);
     lifted(s, st, f, errors)
 }
 
@@ -140,19 +92,7 @@ fn invoke(
     requires skips { Skips multiline_trivia s.now c.at.0 false k }
     ensures { Tells macro_invocation s.now c st left rows.old rows.new errors.old errors.new result }
 {
-    let at = c.at;
-    let count = c.count;
-    let f = definition::macro_invocation(
-        s,
-        Cursor {
-            at,
-            count,
-            met: false,
-        },
-        k,
-        left,
-        rows,
-    );
+    let f = definition::macro_invocation(s, Cursor { met: false, ..c }, k, left, rows);
     lifted(s, st, f, errors)
 }
 
@@ -169,19 +109,7 @@ pub fn align(
     requires skips { Skips multiline_trivia s.now c.at.0 false k }
     ensures { Tells align s.now c st left rows.old rows.new errors.old errors.new result }
 {
-    let at = c.at;
-    let count = c.count;
-    let f = directive::align(
-        s,
-        Cursor {
-            at,
-            count,
-            met: false,
-        },
-        k,
-        left,
-        rows,
-    );
+    let f = directive::align(s, Cursor { met: false, ..c }, k, left, rows);
     lifted(s, st, f, errors)
 }
 
@@ -198,19 +126,7 @@ fn text(
     requires skips { Skips multiline_trivia s.now c.at.0 false k }
     ensures { Tells text s.now c st left rows.old rows.new errors.old errors.new result }
 {
-    let at = c.at;
-    let count = c.count;
-    let f = directive::text(
-        s,
-        Cursor {
-            at,
-            count,
-            met: false,
-        },
-        k,
-        left,
-        rows,
-    );
+    let f = directive::text(s, Cursor { met: false, ..c }, k, left, rows);
     lifted(s, st, f, errors)
 }
 
@@ -219,18 +135,7 @@ fn file(s: &[u8], c: Cursor, k: Skip, st: State, rows: &mut [u32], errors: &mut 
     requires skips { Skips multiline_trivia s.now c.at.0 false k }
     ensures { TellsLeaf file s.now c st rows.old rows.new errors.old errors.new result }
 {
-    let at = c.at;
-    let count = c.count;
-    let f = directive::file(
-        s,
-        Cursor {
-            at,
-            count,
-            met: false,
-        },
-        k,
-        rows,
-    );
+    let f = directive::file(s, Cursor { met: false, ..c }, k, rows);
     lifted(s, st, f, errors)
 }
 
@@ -247,19 +152,7 @@ fn assert(
     requires skips { Skips multiline_trivia s.now c.at.0 false k }
     ensures { Tells assert s.now c st left rows.old rows.new errors.old errors.new result }
 {
-    let at = c.at;
-    let count = c.count;
-    let f = directive::assert(
-        s,
-        Cursor {
-            at,
-            count,
-            met: false,
-        },
-        k,
-        left,
-        rows,
-    );
+    let f = directive::assert(s, Cursor { met: false, ..c }, k, left, rows);
     lifted(s, st, f, errors)
 }
 
@@ -276,19 +169,7 @@ fn trace(
     requires skips { Skips multiline_trivia s.now c.at.0 false k }
     ensures { Tells trace s.now c st left rows.old rows.new errors.old errors.new result }
 {
-    let at = c.at;
-    let count = c.count;
-    let f = directive::trace(
-        s,
-        Cursor {
-            at,
-            count,
-            met: false,
-        },
-        k,
-        left,
-        rows,
-    );
+    let f = directive::trace(s, Cursor { met: false, ..c }, k, left, rows);
     lifted(s, st, f, errors)
 }
 
@@ -307,19 +188,19 @@ pub fn instructions(
     ensures { Tells (instruction or variable_definition or const_definition or pc_definition or config_definition) s.now c st left rows.old rows.new errors.old errors.new result }
 {
     let r = instruct(s, c, k, st, left, rows, errors);
-    let Done::Miss(st) = r else {
+    let Err(Stop::Miss(st)) = r else {
         return r;
     };
     let r = variable(s, c, k, st, left, rows, errors);
-    let Done::Miss(st) = r else {
+    let Err(Stop::Miss(st)) = r else {
         return r;
     };
     let r = constant(s, c, k, st, left, rows, errors);
-    let Done::Miss(st) = r else {
+    let Err(Stop::Miss(st)) = r else {
         return r;
     };
     let r = counter(s, c, k, st, left, rows, errors);
-    let Done::Miss(st) = r else {
+    let Err(Stop::Miss(st)) = r else {
         return r;
     };
     expected::definition(s, c, k, st, left, rows, errors)
@@ -339,7 +220,7 @@ pub fn calls(
     ensures { Tells (macro_invocation or data') s.now c st left rows.old rows.new errors.old errors.new result }
 {
     let r = invoke(s, c, k, st, left, rows, errors);
-    let Done::Miss(st) = r else {
+    let Err(Stop::Miss(st)) = r else {
         return r;
     };
     expected::data(s, c, k, st, left, rows, errors)
@@ -359,7 +240,7 @@ pub fn texts(
     ensures { Tells (text or file) s.now c st left rows.old rows.new errors.old errors.new result }
 {
     let r = text(s, c, k, st, left, rows, errors);
-    let Done::Miss(st) = r else {
+    let Err(Stop::Miss(st)) = r else {
         return r;
     };
     file(s, c, k, st, rows, errors)
@@ -379,7 +260,7 @@ pub fn checks(
     ensures { Tells (assert or trace) s.now c st left rows.old rows.new errors.old errors.new result }
 {
     let r = assert(s, c, k, st, left, rows, errors);
-    let Done::Miss(st) = r else {
+    let Err(Stop::Miss(st)) = r else {
         return r;
     };
     trace(s, c, k, st, left, rows, errors)

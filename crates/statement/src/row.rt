@@ -4,7 +4,7 @@ ghost use Rattle.statement.specs.Shapes.{Spans, Closed, Imported};
 
 use cursor::{Cursor, Skip};
 use state::{Done, State};
-use table::{Pos, RowIndex, kind};
+use table::{Kind, Pos, RowIndex};
 
 // From c to d, with the low k. A scope gets its number now.
 pub fn close(
@@ -33,7 +33,7 @@ pub fn close(
     if scope {
         let number = st.scope + 1;
         table::push_row(rows, RowIndex(n), kind, size, tlow, low, high, number);
-        return Done::Got(
+        return Ok((
             end,
             State {
                 scope: number,
@@ -41,10 +41,10 @@ pub fn close(
                 errors: st.errors,
                 requests: st.requests,
             },
-        );
+        ));
     }
     table::push_row(rows, RowIndex(n), kind, size, tlow, low, high, 0);
-    Done::Got(end, st)
+    Ok((end, st))
 }
 
 // An import's row, number and request: the file name stands from `low` to `high`.
@@ -62,10 +62,7 @@ pub fn import(
     requires low_bound { (low.0 < 2 ^ 32) × (high.0 < 2 ^ 32) × (st.requests < 2 ^ 32) }
     ensures { Imported low.0 high.0 c k d st rows.old rows.new requests.old requests.new result }
 {
-    let r = close(c, k, d, st, kind::IMPORT, true, rows);
-    let Done::Got(e, x) = r else {
-        return r;
-    };
+    let (e, x) = close(c, k, d, st, Kind::Import, true, rows)?;
     let y = state::request(x, low, high, requests);
-    Done::Got(e, y)
+    Ok((e, y))
 }

@@ -22,18 +22,7 @@ pub fn label_head(
     requires skips { Skips multiline_trivia s.now c.at.0 false k }
     ensures { TellsLeaf label_head s.now c st rows.old rows.new errors.old errors.new result }
 {
-    let at = c.at;
-    let count = c.count;
-    let f = definition::label_head(
-        s,
-        Cursor {
-            at,
-            count,
-            met: false,
-        },
-        k,
-        rows,
-    );
+    let f = definition::label_head(s, Cursor { met: false, ..c }, k, rows);
     lifted(s, st, f, errors)
 }
 
@@ -49,18 +38,7 @@ pub fn define_head(
     requires skips { Skips multiline_trivia s.now c.at.0 false k }
     ensures { TellsLeaf define_head s.now c st rows.old rows.new errors.old errors.new result }
 {
-    let at = c.at;
-    let count = c.count;
-    let f = definition::define_head(
-        s,
-        Cursor {
-            at,
-            count,
-            met: false,
-        },
-        k,
-        rows,
-    );
+    let f = definition::define_head(s, Cursor { met: false, ..c }, k, rows);
     lifted(s, st, f, errors)
 }
 
@@ -76,18 +54,7 @@ pub fn macro_head(
     requires skips { Skips multiline_trivia s.now c.at.0 false k }
     ensures { TellsLeaf macro_head s.now c st rows.old rows.new errors.old errors.new result }
 {
-    let at = c.at;
-    let count = c.count;
-    let f = definition::macro_head(
-        s,
-        Cursor {
-            at,
-            count,
-            met: false,
-        },
-        k,
-        rows,
-    );
+    let f = definition::macro_head(s, Cursor { met: false, ..c }, k, rows);
     lifted(s, st, f, errors)
 }
 
@@ -103,18 +70,7 @@ pub fn data_head(
     requires skips { Skips multiline_trivia s.now c.at.0 false k }
     ensures { TellsLeaf data_size s.now c st rows.old rows.new errors.old errors.new result }
 {
-    let at = c.at;
-    let count = c.count;
-    let f = directive::data_head(
-        s,
-        Cursor {
-            at,
-            count,
-            met: false,
-        },
-        k,
-        rows,
-    );
+    let f = directive::data_head(s, Cursor { met: false, ..c }, k, rows);
     lifted(s, st, f, errors)
 }
 
@@ -133,20 +89,7 @@ pub fn directive_head(
     requires skips { Skips multiline_trivia s.now c.at.0 false k × (1 ≤ length word.now) }
     ensures { Tells (directive_expression word.now) s.now c st left rows.old rows.new errors.old errors.new result }
 {
-    let at = c.at;
-    let count = c.count;
-    let f = directive::directive_expression(
-        s,
-        Cursor {
-            at,
-            count,
-            met: false,
-        },
-        k,
-        word,
-        left,
-        rows,
-    );
+    let f = directive::directive_expression(s, Cursor { met: false, ..c }, k, word, left, rows);
     lifted(s, st, f, errors)
 }
 
@@ -155,18 +98,8 @@ pub fn else_head(s: &[u8], c: Cursor, st: State, rows: &mut [u32], errors: &mut 
     ensures { TellsLeaf (directive "else") s.now c st rows.old rows.new errors.old errors.new result }
 {
     let at = c.at;
-    let count = c.count;
     let k = trivia::multiline_trivia(s, at, false);
-    let f = directive::else_head(
-        s,
-        Cursor {
-            at,
-            count,
-            met: false,
-        },
-        k,
-        rows,
-    );
+    let f = directive::else_head(s, Cursor { met: false, ..c }, k, rows);
     lifted(s, st, f, errors)
 }
 
@@ -183,18 +116,7 @@ pub fn import_head(
     requires skips { Skips multiline_trivia s.now c.at.0 false k }
     ensures { TellsLeaf import_head s.now c st rows.old rows.new errors.old errors.new result }
 {
-    let at = c.at;
-    let count = c.count;
-    let f = import::import_head(
-        s,
-        Cursor {
-            at,
-            count,
-            met: false,
-        },
-        k,
-        rows,
-    );
+    let f = import::import_head(s, Cursor { met: false, ..c }, k, rows);
     lifted(s, st, f, errors)
 }
 
@@ -202,16 +124,6 @@ pub fn import_file(s: &[u8], c: Cursor, st: State, rows: &mut [u32], errors: &mu
     requires { Fit 0 s.now c st }
     ensures { TellsLeaf quoted_string s.now c st rows.old rows.new errors.old errors.new result }
 {
-    let at = c.at;
-    let count = c.count;
-    let f = import::import_file(
-        s,
-        Cursor {
-            at,
-            count,
-            met: false,
-        },
-        rows,
-    );
+    let f = import::import_file(s, Cursor { met: false, ..c }, rows);
     lifted(s, st, f, errors)
 }

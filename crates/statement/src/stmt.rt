@@ -8,7 +8,7 @@ ghost use Rattle.statement.specs.Shapes.{body_of, closing, Headed, Ends};
 ghost use Rattle.statement.specs.Heads.{from_macro, from_loop, from_import};
 ghost use Rattle.head.specs.Heads.{directive_of};
 
-use cursor::Cursor;
+use cursor::{Cursor, Stop};
 use state::{Done, State};
 
 // A statement or error text.
@@ -27,7 +27,7 @@ fn item(
     ensures { Does block_item s.now c st left (tables rows.old errors.old requests.old) (tables rows.new errors.new requests.new) result }
 {
     let r = statement(s, c, st, left, rows, errors, requests);
-    let Done::Miss(x) = r else {
+    let Err(Stop::Miss(x)) = r else {
         return r;
     };
     crate::text::error_in_block(s, c, x, rows, errors)
@@ -65,24 +65,22 @@ fn items(
             requests,
         );
         match f {
-            Done::Got(d, x) => {
+            Ok((d, x)) => {
                 at = d.at.0;
                 count = d.count.0;
                 state = x;
             }
-            Done::Miss(x) => {
-                return Done::Got(
+            Err(Stop::Miss(x)) => {
+                return Ok((
                     Cursor {
                         at: table::Pos(at),
                         count: table::RowIndex(count),
                         met: false,
                     },
                     x,
-                );
+                ));
             }
-            Done::Deep => {
-                return Done::Deep;
-            }
+            Err(Stop::Deep) => return Err(Stop::Deep),
         }
     }
 }
@@ -106,41 +104,35 @@ fn braced(
     let tlow = c.at;
     let base = c.count.0;
     let f = crate::brace::mark(s, c, k, st, b'{', rows, errors);
-    let Done::Got(d, x) = f else {
+    let Ok((d, x)) = f else {
         return f;
     };
     if left == 0 {
-        return Done::Deep;
+        return Err(Stop::Deep);
     }
     let low = table::Pos(d.at.0 - 1);
-    let g = items(s, d, x, left - 1, rows, errors, requests);
-    let Done::Got(e, y) = g else {
-        return g;
-    };
-    let h = crate::brace::close(s, e, y, tlow, low, rows, errors);
-    let Done::Got(j, z) = h else {
-        return h;
-    };
+    let (e, y) = items(s, d, x, left - 1, rows, errors, requests)?;
+    let (j, z) = crate::brace::close(s, e, y, tlow, low, rows, errors)?;
     let n = j.count.0;
     let high = j.at;
     table::push_row(
         rows,
         table::RowIndex(n),
-        table::kind::BLOCK,
+        Kind::Block,
         n + 1 - base,
         tlow,
         low,
         high,
         0,
     );
-    Done::Got(
+    Ok((
         Cursor {
             at: high,
             count: table::RowIndex(n + 1),
             met: false,
         },
         z,
-    )
+    ))
 }
 
 #[cycle(statement)]
@@ -175,20 +167,11 @@ fn maybe(
     requires { Fit 0 s.now c st }
     ensures { Does (opt block) s.now c st left (tables rows.old errors.old requests.old) (tables rows.new errors.new requests.new) result }
 {
-    let at = c.at;
-    let count = c.count;
     let f = block(s, c, st, left, rows, errors, requests);
-    let Done::Miss(x) = f else {
+    let Err(Stop::Miss(x)) = f else {
         return f;
     };
-    Done::Got(
-        Cursor {
-            at,
-            count,
-            met: false,
-        },
-        x,
-    )
+    Ok((Cursor { met: false, ..c }, x))
 }
 
 // `else` and its block.
@@ -205,10 +188,7 @@ fn other(
     requires { Fit 0 s.now c st }
     ensures { Does (directive "else" ▸ block) s.now c st left (tables rows.old errors.old requests.old) (tables rows.new errors.new requests.new) result }
 {
-    let f = crate::start::else_head(s, c, st, rows, errors);
-    let Done::Got(d, x) = f else {
-        return f;
-    };
+    let (d, x) = crate::start::else_head(s, c, st, rows, errors)?;
     block(s, d, x, left, rows, errors, requests)
 }
 
@@ -226,24 +206,12 @@ fn branches(
     requires { Fit 0 s.now c st }
     ensures { Does (block ▸ opt (directive "else" ▸ block)) s.now c st left (tables rows.old errors.old requests.old) (tables rows.new errors.new requests.new) result }
 {
-    let f = block(s, c, st, left, rows, errors, requests);
-    let Done::Got(d, x) = f else {
-        return f;
-    };
-    let at = d.at;
-    let count = d.count;
+    let (d, x) = block(s, c, st, left, rows, errors, requests)?;
     let g = other(s, d, x, left, rows, errors, requests);
-    let Done::Miss(y) = g else {
+    let Err(Stop::Miss(y)) = g else {
         return g;
     };
-    Done::Got(
-        Cursor {
-            at,
-            count,
-            met: false,
-        },
-        y,
-    )
+    Ok((Cursor { met: false, ..d }, y))
 }
 
 #[cycle(statement)]
@@ -286,13 +254,10 @@ fn rest(
     requires headed { Headed s.now c h × (kind < 2 ^ 32) }
     ensures { Ends b scope kind s.now c k h left (tables rows.old errors.old requests.old) (tables rows.new errors.new requests.new) result }
 {
-    let Done::Got(d, x) = h else {
+    let Ok((d, x)) = h else {
         return h;
     };
-    let f = body(s, d, b, x, left, rows, errors, requests);
-    let Done::Got(e, y) = f else {
-        return f;
-    };
+    let (e, y) = body(s, d, b, x, left, rows, errors, requests)?;
     crate::row::close(c, k, e, y, kind, scope, rows)
 }
 
@@ -335,11 +300,8 @@ fn braces(
     requires skips { Skips multiline_trivia s.now c.at.0 false k }
     ensures { Does braces s.now c st left (tables rows.old errors.old requests.old) (tables rows.new errors.new requests.new) result }
 {
-    let f = braced(s, c, k, st, left, rows, errors, requests);
-    let Done::Got(d, x) = f else {
-        return f;
-    };
-    crate::row::close(c, k, d, x, table::kind::BRACES, true, rows)
+    let (d, x) = braced(s, c, k, st, left, rows, errors, requests)?;
+    crate::row::close(c, k, d, x, Kind::Braces, true, rows)
 }
 
 #[cycle(statement)]
@@ -364,7 +326,7 @@ fn label(
         k,
         h,
         crate::Body::Maybe,
-        table::kind::LABEL,
+        Kind::Label,
         false,
         left,
         rows,
@@ -395,7 +357,7 @@ fn macro_of(
         k,
         h,
         crate::Body::Block,
-        table::kind::MACRO_DEFINITION,
+        Kind::MacroDefinition,
         false,
         left,
         rows,
@@ -419,22 +381,13 @@ fn import(
     requires skips { Skips multiline_trivia s.now c.at.0 false k }
     ensures { Does import' s.now c st left (tables rows.old errors.old requests.old) (tables rows.new errors.new requests.new) result }
 {
-    let f = crate::start::import_head(s, c, k, st, rows, errors);
-    let Done::Got(d, x) = f else {
-        return f;
-    };
+    let (d, x) = crate::start::import_head(s, c, k, st, rows, errors)?;
     let from = d.at;
     let quote = trivia::trivia(s, from, false);
     let low = quote.at;
-    let g = crate::start::import_file(s, d, x, rows, errors);
-    let Done::Got(e, y) = g else {
-        return g;
-    };
+    let (e, y) = crate::start::import_file(s, d, x, rows, errors)?;
     let high = table::Pos(e.at.0 - 1);
-    let h = maybe(s, e, y, left, rows, errors, requests);
-    let Done::Got(j, z) = h else {
-        return h;
-    };
+    let (j, z) = maybe(s, e, y, left, rows, errors, requests)?;
     crate::row::import(c, k, j, z, low, high, rows, requests)
 }
 
@@ -455,11 +408,11 @@ fn fourth(
     ensures { Does from_import s.now c st left (tables rows.old errors.old requests.old) (tables rows.new errors.new requests.new) result }
 {
     let r = import(s, c, k, st, left, rows, errors, requests);
-    let Done::Miss(st) = r else {
+    let Err(Stop::Miss(st)) = r else {
         return r;
     };
     let r = crate::quiet::texts(s, c, k, st, left, rows, errors);
-    let Done::Miss(st) = r else {
+    let Err(Stop::Miss(st)) = r else {
         return r;
     };
     let r = directive(
@@ -468,7 +421,7 @@ fn fourth(
         k,
         b".test",
         crate::Body::Block,
-        table::kind::TEST,
+        Kind::Test,
         false,
         st,
         left,
@@ -476,7 +429,7 @@ fn fourth(
         errors,
         requests,
     );
-    let Done::Miss(st) = r else {
+    let Err(Stop::Miss(st)) = r else {
         return r;
     };
     crate::quiet::checks(s, c, k, st, left, rows, errors)
@@ -504,7 +457,7 @@ fn third(
         k,
         b".loop",
         crate::Body::Block,
-        table::kind::LOOP,
+        Kind::Loop,
         true,
         st,
         left,
@@ -512,7 +465,7 @@ fn third(
         errors,
         requests,
     );
-    let Done::Miss(st) = r else {
+    let Err(Stop::Miss(st)) = r else {
         return r;
     };
     let r = directive(
@@ -521,7 +474,7 @@ fn third(
         k,
         b".if",
         crate::Body::Branches,
-        table::kind::IF,
+        Kind::If,
         false,
         st,
         left,
@@ -529,11 +482,11 @@ fn third(
         errors,
         requests,
     );
-    let Done::Miss(st) = r else {
+    let Err(Stop::Miss(st)) = r else {
         return r;
     };
     let r = crate::quiet::align(s, c, k, st, left, rows, errors);
-    let Done::Miss(st) = r else {
+    let Err(Stop::Miss(st)) = r else {
         return r;
     };
     fourth(s, c, k, st, left, rows, errors, requests)
@@ -556,11 +509,11 @@ fn second(
     ensures { Does from_macro s.now c st left (tables rows.old errors.old requests.old) (tables rows.new errors.new requests.new) result }
 {
     let r = macro_of(s, c, k, st, left, rows, errors, requests);
-    let Done::Miss(st) = r else {
+    let Err(Stop::Miss(st)) = r else {
         return r;
     };
     let r = crate::quiet::calls(s, c, k, st, left, rows, errors);
-    let Done::Miss(st) = r else {
+    let Err(Stop::Miss(st)) = r else {
         return r;
     };
     let r = directive(
@@ -569,7 +522,7 @@ fn second(
         k,
         b".segment",
         crate::Body::Maybe,
-        table::kind::SEGMENT,
+        Kind::Segment,
         false,
         st,
         left,
@@ -577,7 +530,7 @@ fn second(
         errors,
         requests,
     );
-    let Done::Miss(st) = r else {
+    let Err(Stop::Miss(st)) = r else {
         return r;
     };
     third(s, c, k, st, left, rows, errors, requests)
@@ -600,15 +553,15 @@ pub fn statement(
     let at = c.at;
     let k = trivia::multiline_trivia(s, at, false);
     let r = braces(s, c, k, st, left, rows, errors, requests);
-    let Done::Miss(st) = r else {
+    let Err(Stop::Miss(st)) = r else {
         return r;
     };
     let r = label(s, c, k, st, left, rows, errors, requests);
-    let Done::Miss(st) = r else {
+    let Err(Stop::Miss(st)) = r else {
         return r;
     };
     let r = crate::quiet::instructions(s, c, k, st, left, rows, errors);
-    let Done::Miss(st) = r else {
+    let Err(Stop::Miss(st)) = r else {
         return r;
     };
     second(s, c, k, st, left, rows, errors, requests)

@@ -8,7 +8,7 @@ use crate::lift::lifted;
 use cursor::Cursor;
 use lexis::mark;
 use state::{Done, State};
-use table::{Pos, kind};
+use table::{Kind, Pos};
 use trivia::class;
 
 // Text up to a byte of the class, which is reported.
@@ -25,29 +25,21 @@ fn error_text(
     ensures { TellsLeaf (error_of class) s.now c st rows.old rows.new errors.old errors.new result }
 {
     let at = c.at;
-    let count = c.count;
     let k = trivia::multiline_trivia(s, at, false);
     let f = mark::run(
         s,
-        Cursor {
-            at,
-            count,
-            met: false,
-        },
+        Cursor { met: false, ..c },
         k,
         class,
         false,
-        kind::ERROR,
+        Kind::Error,
         rows,
     );
-    let r = lifted(s, st, f, errors);
-    let Done::Got(d, x) = r else {
-        return r;
-    };
+    let (d, x) = lifted(s, st, f, errors)?;
     let low = k.at;
     let high = d.at;
     let y = state::report(x, 2, low, high, errors);
-    Done::Got(d, y)
+    Ok((d, y))
 }
 
 pub fn error(s: &[u8], c: Cursor, st: State, rows: &mut [u32], errors: &mut [u32]) -> Done
@@ -70,17 +62,12 @@ pub fn eof(s: &[u8], c: Cursor, st: State, rows: &mut [u32], errors: &mut [u32])
     ensures { TellsLeaf eof s.now c st rows.old rows.new errors.old errors.new result }
 {
     let at = c.at;
-    let count = c.count;
     let k = trivia::multiline_trivia(s, at, false);
     let f = mark::row(
-        Cursor {
-            at,
-            count,
-            met: false,
-        },
+        Cursor { met: false, ..c },
         k,
         Pos(s.len()),
-        kind::EOF,
+        Kind::Eof,
         0,
         rows,
     );

@@ -1,14 +1,12 @@
 -- The first alternative that fits.
-use mathlib.Core.Path.{sym}
 use Rattle.reading.specs.Rules.{identifier_name}
-use Rattle.lexis.proofs.Ends.{finds_to, or_at, or_no}
+use Rattle.lexis.proofs.Ends.{or_found, or_no}
 use Rattle.lexis.proofs.identifier.identifier.Goals as goal
 
 pub returns-in_default : goal.returns-in_default
-returns-in_default c =
-    finds_to (sym c.in_default.is) (or_at identifier_name (finds_to c.in_default.is c.scope-f.ensures))
+returns-in_default c = or_found identifier_name _ c.in_default.not-None c.scope.ensures
 
-pub returns : goal.returns
+pub returns-in-None : goal.returns-in-None
 unfolding identifier_name
-returns c =
-    or_no identifier_name (finds_to c.in-No.is c.scope-f.ensures) c.name_end.ensures
+returns-in-None c =
+    or_no identifier_name c.in-None.ensures c.name_end.ensures

@@ -12,7 +12,7 @@ returns-then-high-low c =
 pub row-requires : goal.row-requires
 row-requires c =
     let found = some_at (among c.args.class c.args.inside) _ _ _ c.run_end-high.ensures c.if-high-low.false in
-    row_fits c.requires.placed _ _ 0 (end_in tt tt c.requires.placed.within found).within c.requires.class_bound.1 (omega arith)
+    row_fits c.requires.placed _ 0 (end_in tt tt c.requires.placed.within found).within (omega arith)
 
 pub returns : goal.returns
 returns c =

@@ -7,7 +7,7 @@ use Rattle.lexis.proofs.mark.word.Goals as goal
 pub row-requires : goal.row-requires
 row-requires c =
     let found = word_at c.args.word.now _ _ (sym c.begins.ensures ∙ c.if-begins.true) (record { 0 = _ }) refl in
-    row_fits c.requires.placed _ _ _ (end_in tt tt c.requires.placed.within found).within c.requires.kind_bound.0 c.requires.kind_bound.1
+    row_fits c.requires.placed _ _ (end_in tt tt c.requires.placed.within found).within c.requires.detail_bound
 
 pub returns-then-begins : goal.returns-then-begins
 returns-then-begins c =

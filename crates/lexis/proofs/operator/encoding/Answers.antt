@@ -7,8 +7,7 @@ use Rattle.lexis.proofs.Words.{picked_fits}
 use Rattle.lexis.proofs.operator.encoding.Goals as goal
 
 pub picked-requires-clause-fitting : goal.picked-requires-clause-fitting
-picked-requires-clause-fitting c = (picked_fits encodings tt (placed c.requires (omega arith) c.trivia-k.ensures) 54
-    (omega arith) c.encoding-p.ensures).1
+picked-requires-clause-fitting c = (picked_fits encodings tt (placed c.requires (omega arith) c.trivia-k.ensures) c.encoding-p.ensures).1
 
 pub returns : goal.returns
 unfolding encoding

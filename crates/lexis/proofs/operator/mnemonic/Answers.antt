@@ -6,5 +6,5 @@ use Rattle.lexis.proofs.Words.{picked_fits}
 use Rattle.lexis.proofs.operator.mnemonic.Goals as goal
 
 pub picked-requires-clause-fitting : goal.picked-requires-clause-fitting
-picked-requires-clause-fitting c = (picked_fits (mnemonic_list c.args.implied) (mnemonics_slight c.args.implied) c.requires 46 (omega arith)
+picked-requires-clause-fitting c = (picked_fits (mnemonic_list c.args.implied) (mnemonics_slight c.args.implied) c.requires
     c.mnemonic-p.ensures).1

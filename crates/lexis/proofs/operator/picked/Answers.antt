@@ -13,7 +13,7 @@ pub row-requires : goal.row-requires
 row-requires c =
     let h = c.requires.count_bound in
     let f = fitting_word _ _ _ c.in-Word.is c.requires.fitting in
-    (h.0, h.1, h.2, f.0, h.3, f.1)
+    (h.0, h.1, h.2, f.0, f.1)
 
 pub returns : goal.returns
 returns c = chosen_word _ _ _ c.in-Word.is c.row.ensures

@@ -8,7 +8,7 @@ use Rattle.lexis.proofs.operator.term_operator.Goals as goal
 
 pub picked-requires-clause-fitting : goal.picked-requires-clause-fitting
 picked-requires-clause-fitting c = (picked_fits term_operators tt (placed c.requires (omega arith)
-    c.trivia-k.ensures) 48 (omega arith) c.term_operator-p.ensures).1
+    c.trivia-k.ensures) c.term_operator-p.ensures).1
 
 pub returns : goal.returns
 unfolding term_operator
