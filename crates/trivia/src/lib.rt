@@ -9,9 +9,10 @@ ghost use Rattle.reading.specs.Table.{max_text, first_high};
 ghost use Rattle.reading.specs.Items.{trivia_items};
 ghost use Rattle.cursor.specs.Text.{Skips};
 ghost use Rattle.trivia.specs.Answers.{told, listed, high_of, Lists};
-ghost use Rattle.trivia.specs.Class.{among, starts, goes, name_run};
+ghost use Rattle.trivia.specs.Class.{bit_of, among, starts, goes, name_run};
 ghost use Rattle.trivia.specs.Piece.{Starts, Nothing, trivia_of};
 
+use crate::class::Class;
 use cursor::Skip;
 use reading::MAX_TEXT;
 use table::Pos;
@@ -21,14 +22,12 @@ mod comment;
 pub mod kind;
 
 // The end of the run that starts here, of bytes of the class if `inside` is set, and of bytes that are not of it if not.
-pub fn run_end(s: &[u8], at: Pos, class: u32, inside: bool) -> Pos
-    requires { class < 8 }
-    ensures { result.0 ≡ at.0 + run (among class inside) (drop at.0 s.now) }
+pub fn run_end(s: &[u8], at: Pos, class: Class, inside: bool) -> Pos
+    ensures { result.0 ≡ at.0 + run (among (bit_of class) inside) (drop at.0 s.now) }
 {
-    let masks = class::masks();
     let mut i = at.0;
     while i < s.len() {
-        if !class::among(&masks, s[i], class, inside) {
+        if !class.among(s[i], inside) {
             return Pos(i);
         }
         i += 1;
@@ -48,10 +47,9 @@ pub fn name_end(s: &[u8], at: Pos, also: u8) -> Pos
     if !(class::letter(b) | (b == also)) {
         return at;
     }
-    let masks = class::masks();
     i += 1;
     while i < s.len() {
-        if !class::goes_on(&masks, s[i], also) {
+        if !class::goes_on(s[i], also) {
             return Pos(i);
         }
         i += 1;
@@ -70,7 +68,7 @@ pub fn digits_end(s: &[u8], at: Pos) -> Pos
     if !class::digit(s[i]) {
         return at;
     }
-    run_end(s, at, class::DIGIT, true)
+    run_end(s, at, Class::Digit, true)
 }
 
 // Where a comment ends, or that the text ends first.
@@ -147,7 +145,7 @@ fn blanks_end(s: &[u8], at: Pos) -> Pos
     if !class::blank(s[i]) {
         return at;
     }
-    run_end(s, at, class::BLANK, true)
+    run_end(s, at, Class::Blank, true)
 }
 
 // What starts here. Most bytes stand above the space and start nothing; they are answered first.
