@@ -17,7 +17,7 @@ use Rattle.cursor.proofs.Places.{run_go}
 use Rattle.trivia.proofs.Marks.{left_step, left_on}
 use Rattle.trivia.specs.Class.{in_line}
 use Rattle.trivia.specs.Piece.{close_of, closed, closes_at, either_at, Clear, left, Unmarked}
-use Rattle.trivia.specs.declared.Close.TheVariants.{Open}
+use Rattle.std.specs.Prelude.{None}
 
 -- Tests that no place of a part passes -----------------------------------------
 
@@ -70,7 +70,7 @@ past [] i h = refl
 past (x ∷ s) zero h = absurd (let z : ⊥ = omega (arith, h) in z)
 past (x ∷ s) (suc i) h = past s i (omega (arith, h))
 
-pub unmarked_open : (s : List ℕ) (at : ℕ) → Clear (closes_at s) at (length s) → Open ≡ closed s at
+pub unmarked_open : (s : List ℕ) (at : ℕ) → Clear (closes_at s) at (length s) → None ≡ closed s at
 unfolding closed
 unmarked_open s at h = sym (ap (close_of at) (never (drop at s) 0 0 plain))
   where

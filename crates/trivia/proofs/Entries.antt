@@ -13,8 +13,9 @@ use Rattle.table.specs.Words.{pushed, error_record, Holds}
 use Rattle.table.proofs.Holds.{Writes, holds_more}
 use Rattle.trivia.specs.Answers.{Lists}
 use Rattle.trivia.specs.Piece.{item_of, Starts}
-use Rattle.trivia.specs.declared.Piece.{Piece}
-use Rattle.trivia.specs.declared.Piece.TheVariants.{Item, No}
+use Rattle.std.specs.Prelude.{Option as Optional, Some, None}
+use Rattle.trivia.specs.Kind.{item_number}
+use Rattle.trivia.specs.declared.Item.{Item}
 use Rattle.trivia.proofs.Walk.{item_bounds}
 
 abbrev entry : ℕ → ℕ → ℕ → Entry
@@ -58,12 +59,12 @@ passed_none s t =
       held = record { word = λ i g l. absurd (let z : ⊥ = omega arith in z) };
     }
 
-module _ {s t : List ℕ} {i n : ℕ} (u : Passed s t i n) {r : Piece} (a : Starts s i r) where
-  pub passed_more : {t' : List ℕ} (k : ℕ) (e : Pos) → r ≡ Item k e → t' ≡ pushed error_width t n (error_record k i e.0) → Passed s t' e.0 (n + 1)
+module _ {s t : List ℕ} {i n : ℕ} (u : Passed s t i n) {r : Optional Item} (a : Starts s i r) where
+  pub passed_more : {t' : List ℕ} (y : Item) → r ≡ Some y → t' ≡ pushed error_width t n (error_record (item_number y.kind) i y.end.0) → Passed s t' y.end.0 (n + 1)
   unfolding item_of
-  passed_more {t'} k e q p =
-      let x : Entry = entry k i e.0 in
-      let m = item_bounds a k e q in
+  passed_more {t'} y q p =
+      let x : Entry = entry (item_number y.kind) i y.end.0 in
+      let m = item_bounds a y q in
       record {
         within = m.1;
         few = omega (arith, m.0);
@@ -73,7 +74,7 @@ module _ {s t : List ℕ} {i n : ℕ} (u : Passed s t i n) {r : Piece} (a : Star
         held = rw p (holds_more items_written t u.passed n x u.count u.held);
       }
 
-  pub passed_all : r ≡ No → Lists s t (record { count = n; end = record { 0 = i } })
+  pub passed_all : r ≡ None → Lists s t (record { count = n; end = record { 0 = i } })
   unfolding item_of
   passed_all q =
       let o : items s ≡ (u.passed, here s i) = rw (append-nil u.passed) at (items_are (u.back [] i (stop (a.listed ∙ ap (item_of s) q)))) in

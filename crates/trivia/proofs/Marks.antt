@@ -12,18 +12,18 @@ use Rattle.reading.proofs.Bool.{neither}
 use Rattle.reading.specs.Byte.{comment, plus}
 use Rattle.cursor.proofs.Places.{cons}
 use Rattle.trivia.specs.Piece.{close_of, closed, left}
-use Rattle.trivia.specs.declared.Close.{Close}
-use Rattle.trivia.specs.declared.Close.TheVariants.{At, Open}
+use Rattle.std.specs.Prelude.{Option as Optional, Some, None}
+use Rattle.table.specs.declared.Pos.{Pos}
 
 close_plus : (i k : ℕ) (o : Option ℕ) → close_of i (plus k o) ≡ close_of (i + k) o
 close_plus i k none = refl
-close_plus i k (some n) = ap {B = Close} (λ (j : ℕ). At (record { 0 = j })) (let h : i + (k + n) ≡ i + k + n = omega arith in h)
+close_plus i k (some n) = ap {B = Optional Pos} (λ (j : ℕ). Some (record { 0 = j })) (let h : i + (k + n) ≡ i + k + n = omega arith in h)
 
 pub left_all : (s : List ℕ) (at : ℕ) → closed s at ≡ left s 0 0 at
 unfolding left closed
 left_all s at = refl
 
-pub left_end : (s : List ℕ) (d p i : ℕ) → length s ≤ i → left s d p i ≡ Open
+pub left_end : (s : List ℕ) (d p i : ℕ) → length s ≤ i → left s d p i ≡ None
 unfolding left
 left_end s d p i h = ap (λ t. close_of i (comment d p t)) (drop_of_length-le s h)
 
@@ -54,7 +54,7 @@ module _ (s : List ℕ) (b i : ℕ) (h : i < length s) where
   unfolding left
   byte d x y e f = ap (λ t. close_of i (comment d b t)) (cons s i h) ∙ ap₂ (λ x y. close_of i (pair d (get_or s i 0) (drop (i + 1) s) x y)) e f
 
-  pub left_close : (d : ℕ) → d ≡ 0 → eqb b 42 && eqb (get_or s i 0) 47 ≡ true → left s d b i ≡ At (record { 0 = i + 1 })
+  pub left_close : (d : ℕ) → d ≡ 0 → eqb b 42 && eqb (get_or s i 0) 47 ≡ true → left s d b i ≡ Some (record { 0 = i + 1 })
   left_close d z e = ap (λ x. left s x b i) z ∙ byte 0 true _ e refl
 
   pub left_less : (d : ℕ) → (d ≡ 0 → ⊥) → eqb b 42 && eqb (get_or s i 0) 47 ≡ true → left s d b i ≡ left s (d - 1) 0 (i + 1)

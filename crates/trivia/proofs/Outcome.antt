@@ -1,11 +1,12 @@
 -- What the call that lists items has to answer, test by test.
-use mathlib.Core.Path.{◌≡◌, ap, sym, ◌∙◌}
-use mathlib.Core.List.{List, [], ◌++◌}
+use mathlib.Core.Path.{◌≡◌, refl, ap, sym, ◌∙◌}
+use mathlib.Core.List.{List, [], ◌∷◌, ◌++◌, append-nil}
 use mathlib.Core.Option.{none, some}
-use Prim.Native.Nat.{ℕ, ◌*◌, ◌-◌, ◌/◌, ◌≤◌, ◌<◌}
+use borrow.Rule.Slice.PartMut.{put_mid}
+use Prim.Native.Nat.{ℕ, zero, suc, ◌*◌, ◌-◌, ◌/◌, ◌≤◌, ◌<◌}
 use native.Mathlib.Omega.{arith}
 use borrow.Author.Tests.{lt-ltb, le-ltb}
-use lib.ListN.{length, take}
+use lib.ListN.{length, take, drop, replicate, length-drop, length-take, drop_of_length-le}
 use native.Mathlib.Nat.{mul-le-mul_right}
 use Rattle.reading.specs.Items.{items, item_width, item_words, item_refusal, trivia_items}
 use Rattle.reading.specs.Table.{answered, refused, first_high, room, zeros, filled, max_text}
@@ -14,6 +15,24 @@ use Rattle.table.proofs.Holds.{words_length, holds_filled}
 use Rattle.trivia.specs.Answers.{listed, Lists}
 use Rattle.trivia.specs.declared.Listing.{Listing}
 use Rattle.trivia.proofs.Entries.{items_written}
+
+-- Zeros, as `fill` leaves them --------------------------------------------
+
+zeros_are : (n : ℕ) → replicate n 0 ≡ zeros n
+zeros_are zero = refl
+zeros_are (suc n) = ap (0 ∷◌) (zeros_are n)
+
+pub zeros_only : (t : List ℕ) → replicate (length t) 0 ≡ filled [] t
+zeros_only t = zeros_are (length t) ∙ ap zeros (let e : length t ≡ length t - 0 = omega arith in e)
+
+pub zeros_behind : (t ys : List ℕ) (a : ℕ) → a ≤ length t → ys ≡ replicate (length (take (length t - a) (drop a t))) 0
+    → put_mid a (length t - a) t ys ≡ take a t ++ zeros (length t - a)
+zeros_behind t ys a h e =
+    let none : drop (length t - a) (drop a t) ≡ [] = drop_of_length-le (drop a t) (omega (arith, length-drop a t)) in
+    let all : length (take (length t - a) (drop a t)) ≡ length t - a = omega (arith, length-drop a t, length-take (length t - a) (drop a t)) in
+    ap (take a t ++◌) (ap (ys ++◌) none ∙ append-nil ys ∙ e ∙ ap (λ (n : ℕ). replicate n 0) all ∙ zeros_are (length t - a))
+
+-- The answer -----------------------------------------------------------------
 
 -- the words of the items, and zeros behind them
 zeroed : (s t u : List ℕ) (n : ℕ) → n ≡ length (items s).0 → n ≤ room item_width t → length u ≡ length t → Holds item_width u (item_words (items s).0)

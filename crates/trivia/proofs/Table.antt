@@ -1,4 +1,4 @@
--- The table of classes: what its bits say. That the array of class.rt is this table is proved in proofs/class/masks, by computing both once.
+-- The table of classes: what its bits say. The array of class.rt is this table: both are computed once.
 use mathlib.Core.Path.{◌≡◌, refl, ap, ◌∙◌, sym}
 use mathlib.Core.Bool.{Bool, beq, true, false, not}
 use mathlib.Core.List.{List, [], ◌∷◌}
@@ -7,6 +7,7 @@ use native.Mathlib.Nat.{add-zero, add-suc, suc-add, zero-add, zero-div, div-div-
 use native.Mathlib.Omega.{arith}
 use lib.Dec.{eqb}
 use lib.ListN.{get_or}
+use Rattle.trivia.specs.declared.class.TheConstants.{CLASSES}
 use Rattle.trivia.specs.Class.{classes, member, among, one_if, mask, bit, masks_from, table}
 
 low : (x : Bool) (n : ℕ) → bit (one_if x + 2 * n) 0 ≡ x
@@ -17,12 +18,12 @@ half : (x : Bool) (n : ℕ) → (one_if x + 2 * n) / 2 ≡ n
 half true n = omega arith
 half false n = omega arith
 
-bit_of : (fs : List (ℕ → Bool)) (c b : ℕ) → bit (mask fs b) c ≡ get_or fs c (λ b. false) b
-bit_of [] c b = ap (λ n. eqb (n % 2) 1) (zero-div (2 ^ c))
-bit_of (f ∷ fs) zero b = low (f b) (mask fs b)
-bit_of (f ∷ fs) (suc c) b =
+bit_mask : (fs : List (ℕ → Bool)) (c b : ℕ) → bit (mask fs b) c ≡ get_or fs c (λ b. false) b
+bit_mask [] c b = ap (λ n. eqb (n % 2) 1) (zero-div (2 ^ c))
+bit_mask (f ∷ fs) zero b = low (f b) (mask fs b)
+bit_mask (f ∷ fs) (suc c) b =
     ap (λ n. eqb (n % 2) 1) (ap (mask (f ∷ fs) b /◌) (pow-succ' 2 c) ∙ sym (div-div-eq-div-mul (mask (f ∷ fs) b) 2 (2 ^ c)) ∙ ap (◌/ 2 ^ c) (half (f b) (mask fs b)))
-    ∙ bit_of fs c b
+    ∙ bit_mask fs c b
 
 mask_at : (n a b : ℕ) → b < n → get_or (masks_from n a) b 0 ≡ mask classes (a + b)
 mask_at zero a b h = absurd (not-suc-le-zero h)
@@ -32,7 +33,15 @@ mask_at (suc n) a (suc b) h = mask_at n (suc a) b (le_of_suc-le-suc h) ∙ ap (m
 -- the rule of the table, for every byte and class
 pub rule : (b c : ℕ) → b < 256 → bit (get_or table b 0) c ≡ member c b
 unfolding table
-rule b c h = ap (λ x. bit x c) (mask_at 256 0 b h ∙ ap (mask classes) (zero-add b)) ∙ bit_of classes c b
+rule b c h = ap (λ x. bit x c) (mask_at 256 0 b h ∙ ap (mask classes) (zero-add b)) ∙ bit_mask classes c b
+
+-- the array, entry by entry
+array : CLASSES ≡ table
+unfolding table
+array = refl
+
+pub bit_is : (b n c : ℕ) → b < 256 → n ≡ c → bit (get_or CLASSES b 0) n ≡ member c b
+bit_is b n c h e = ap (λ t. bit (get_or t b 0) n) array ∙ ap (bit (get_or table b 0)) e ∙ rule b c h
 
 -- the bit is what is asked for
 beq_true : (x : Bool) → beq x true ≡ x

@@ -1,29 +1,25 @@
 -- The call that lists the items of a run: its answer in document 01's numbers, and what its two passes give.
-use Rattle.std.specs.Prelude.{List, ◌≡◌, ℕ, length}
-use Rattle.std.proofs.Math.Option.{Option, none, some}
+use Rattle.std.specs.Prelude.{Option, Some, None, Result, Ok, Err, List, ◌≡◌, ℕ, length}
+use Rattle.std.proofs.Math.Option.{Option as Maybe, none, some}
 use Rattle.reading.specs.Items.{items, item_width, item_words, Listed}
 use Rattle.reading.specs.Table.{Answer, answered, refused}
+use Rattle.table.specs.declared.Pos.{Pos}
 use Rattle.table.specs.Words.{Holds}
-use Rattle.trivia.specs.declared.High.{High}
-use Rattle.trivia.specs.declared.High.TheVariants.{At, No}
-use Rattle.trivia.specs.declared.ItemsAnswer.{ItemsAnswer}
-use Rattle.trivia.specs.declared.ItemsAnswer.TheVariants.{Count, TooLong, HighByte, NoItem, NoRoom}
+use Rattle.trivia.specs.Refusal.{number_of, gives_of}
+use Rattle.trivia.specs.declared.error.ItemsError.{ItemsError}
 use Rattle.trivia.specs.declared.Listing.{Listing}
 
 -- the number of items, or the refusal's number and what it gives
-abbrev pub told : ItemsAnswer → Answer ℕ
-told (Count n) = answered n
-told (TooLong n) = refused 1 n
-told (HighByte n) = refused 2 n
-told (NoItem n) = refused 11 n
-told (NoRoom n) = refused 12 n
+abbrev pub told : Result ℕ ItemsError → Answer ℕ
+told (Ok n) = answered n
+told (Err e) = refused (number_of e) (gives_of e)
 
 abbrev pub listed : Answer ℕ → List ℕ → Listed
 listed a t = record { answer = a; table = t }
 
-abbrev pub high_of : High → Option ℕ
-high_of (At p) = some p.0
-high_of No = none
+abbrev pub high_of : Option Pos → Maybe ℕ
+high_of (Some p) = some p.0
+high_of None = none
 
 -- the items of s are counted, and in the table t as far as it has room
 pub record Lists (s t : List ℕ) (r : Listing) : Type 0 where

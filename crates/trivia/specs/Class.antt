@@ -1,10 +1,23 @@
 -- The classes of bytes by their numbers, and the table that has a bit for each.
 use Rattle.std.specs.Prelude.{Bool, true, false, not, cond, ◌||◌, List, [], ◌∷◌, ℕ, zero, suc, ◌+◌, ◌*◌, ◌/◌, ◌%◌, ◌^◌, eqb, get_or}
 use Rattle.reading.specs.Byte.{is, blank, letter, digit, alphanumeric, hex_digit, binary_digit, line_end, ends_error, ends_error_in_block, ends_piece, run}
+use Rattle.trivia.specs.declared.class.Class.{Class}
+use Rattle.trivia.specs.declared.class.Class.TheVariants.{Blank, Letter, Digit, HexDigit, BinaryDigit, EndsError, EndsPiece, EndsErrorInBlock}
 
 -- in the order of the table's bits
 abbrev pub classes : List (ℕ → Bool)
 classes = blank ∷ letter ∷ digit ∷ hex_digit ∷ binary_digit ∷ ends_error ∷ ends_piece ∷ ends_error_in_block ∷ []
+
+-- a class's place among them
+abbrev pub bit_of : Class → ℕ
+bit_of Blank = 0
+bit_of Letter = 1
+bit_of Digit = 2
+bit_of HexDigit = 3
+bit_of BinaryDigit = 4
+bit_of EndsError = 5
+bit_of EndsPiece = 6
+bit_of EndsErrorInBlock = 7
 
 abbrev pub member : ℕ → ℕ → Bool
 member c = get_or classes c (λ b. false)

@@ -1,26 +1,22 @@
-// The classes of bytes: their numbers, and the table that has a bit for each. Here bytes are told apart.
-ghost use Rattle.std.specs.Prelude.{◌≡◌, ◌<◌};
-ghost use Rattle.trivia.specs.Class.{table, member, among, goes};
+// The classes of bytes, and the table that has a bit for each. Here bytes are told apart.
+ghost use Rattle.std.specs.Prelude.{◌≡◌};
+ghost use Rattle.trivia.specs.Class.{bit_of, member, among, goes};
 
-pub const BLANK: u32 = 0;
-
-pub const LETTER: u32 = 1;
-
-pub const DIGIT: u32 = 2;
-
-pub const HEX_DIGIT: u32 = 3;
-
-pub const BINARY_DIGIT: u32 = 4;
-
-pub const ENDS_ERROR: u32 = 5;
-
-pub const ENDS_PIECE: u32 = 6;
-
-// A closing brace ends error text too.
-pub const ENDS_ERROR_IN_BLOCK: u32 = 7;
+// In the order of the table's bits. A closing brace ends error text too, in a block.
+#[derive(Clone, Copy)]
+pub enum Class {
+    Blank,
+    Letter,
+    Digit,
+    HexDigit,
+    BinaryDigit,
+    EndsError,
+    EndsPiece,
+    EndsErrorInBlock,
+}
 
 // Bit c of the entry b: the byte b is of the class c.
-const CLASS: [u8; 256] = [
+static CLASSES: [u8; 256] = [
     // from 0
     0x00, 0x00, 0x00, 0x00, 0x00, 0x00, 0x00, 0x00, 0x00, 0x01, 0xe0, 0x00, 0x00, 0xe0, 0x00, 0x00,
     // from 16
@@ -55,38 +51,36 @@ const CLASS: [u8; 256] = [
     0x00, 0x00, 0x00, 0x00, 0x00, 0x00, 0x00, 0x00, 0x00, 0x00, 0x00, 0x00, 0x00, 0x00, 0x00, 0x00,
 ];
 
-// The table, for a reader that looks bytes up. A constant array is stored on the stack at each use, so a run asks for it once.
-pub fn masks() -> [u8; 256]
-    ensures { result ≡ table }
-{
-    CLASS
-}
+impl Class {
+    fn bit(self) -> u32
+        ensures { result ≡ bit_of self }
+    {
+        self as u32
+    }
 
-// The byte is of the class.
-pub fn of_class(masks: &[u8; 256], b: u8, class: u32) -> bool
-    requires { (masks.now ≡ table) × (class < 8) }
-    ensures { result ≡ member class b }
-{
-    (masks[b as usize] >> class) % 2 == 1
-}
+    // The byte is of the class.
+    pub fn has(self, b: u8) -> bool
+        ensures { result ≡ member (bit_of self) b }
+    {
+        (CLASSES[b as usize] >> self.bit()) % 2 == 1
+    }
 
-// The byte is of the class if `inside` is set, and is not of it if not.
-pub fn among(masks: &[u8; 256], b: u8, class: u32, inside: bool) -> bool
-    requires { (masks.now ≡ table) × (class < 8) }
-    ensures { result ≡ among class inside b }
-{
-    of_class(masks, b, class) == inside
+    // The byte is of the class if `inside` is set, and is not of it if not.
+    pub fn among(self, b: u8, inside: bool) -> bool
+        ensures { result ≡ among (bit_of self) inside b }
+    {
+        self.has(b) == inside
+    }
 }
 
 // The byte goes on in a name: a letter, a digit, or the byte `also`, which is `_` in names and `-` in config keys.
-pub fn goes_on(masks: &[u8; 256], b: u8, also: u8) -> bool
-    requires { masks.now ≡ table }
+pub fn goes_on(b: u8, also: u8) -> bool
     ensures { result ≡ goes also b }
 {
-    (of_class(masks, b, LETTER) | of_class(masks, b, DIGIT)) | (b == also)
+    (Class::Letter.has(b) | Class::Digit.has(b)) | (b == also)
 }
 
-// Three classes by comparisons, for a single byte, where to set up the table would cost more. Each promises what the table says.
+// Three classes by comparisons, for a single byte. Each promises what the table says.
 pub fn blank(b: u8) -> bool
     ensures { result ≡ member 0 b }
 {
@@ -96,11 +90,11 @@ pub fn blank(b: u8) -> bool
 pub fn letter(b: u8) -> bool
     ensures { result ≡ member 1 b }
 {
-    ((b'a' <= b) & (b <= b'z')) | ((b'A' <= b) & (b <= b'Z'))
+    b.is_ascii_alphabetic()
 }
 
 pub fn digit(b: u8) -> bool
     ensures { result ≡ member 2 b }
 {
-    (b'0' <= b) & (b <= b'9')
+    b.is_ascii_digit()
 }

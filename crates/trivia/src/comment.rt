@@ -5,7 +5,6 @@ ghost use Rattle.reading.specs.Byte.{run};
 ghost use Rattle.trivia.specs.Class.{in_line};
 ghost use Rattle.trivia.specs.Piece.{closed, closes_at, either_at, Clear, Unmarked};
 
-use crate::Close;
 use table::Pos;
 
 // How many bytes are looked at together, of a text and of a line.
@@ -96,7 +95,7 @@ fn starless_end(s: &[u8], at: Pos) -> Pos
 
 // The end of the block comment, mark by mark. Comments nest, and no byte belongs to two marks.
 // The inner loop goes to the next slash or star. It leaves both loops at the mark that closes the comment and at the text's end.
-fn marks_end(s: &[u8], at: Pos) -> Close
+fn marks_end(s: &[u8], at: Pos) -> Option<Pos>
     ensures { result ≡ closed s.now at.0 }
 {
     let mut i = at.0;
@@ -105,7 +104,7 @@ fn marks_end(s: &[u8], at: Pos) -> Close
         i = starless_end(s, Pos(i)).0;
         loop {
             if s.len() <= i {
-                break 'marks Close::Open;
+                break 'marks None;
             }
             let b = s[i];
             i += 1;
@@ -113,13 +112,13 @@ fn marks_end(s: &[u8], at: Pos) -> Close
                 continue;
             }
             if s.len() <= i {
-                break 'marks Close::Open;
+                break 'marks None;
             }
             let c = s[i];
             if (b == b'*') & (c == b'/') {
                 i += 1;
                 if open == 0 {
-                    break 'marks Close::At(Pos(i));
+                    break 'marks Some(Pos(i));
                 }
                 open -= 1;
             } else if (b == b'/') & (c == b'*') {
@@ -133,13 +132,13 @@ fn marks_end(s: &[u8], at: Pos) -> Close
 }
 
 // The end of the block comment whose mark stands right before `at`. One that nothing closes is found open at once.
-pub fn c_comment(s: &[u8], at: Pos) -> Close
+pub fn c_comment(s: &[u8], at: Pos) -> Option<Pos>
     ensures { result ≡ closed s.now at.0 }
 {
     if closes(s, at) {
         return marks_end(s, at);
     }
-    Close::Open
+    None
 }
 
 // The end of the blocks from here on in which no line ends; the line goes on there.

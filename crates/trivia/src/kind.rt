@@ -1,10 +1,21 @@
 // The kinds of items.
-pub const WHITESPACE: usize = 1;
+ghost use Rattle.std.specs.Prelude.{◌≡◌};
+ghost use Rattle.trivia.specs.Kind.{item_number};
 
-pub const NEWLINE: usize = 2;
+// The numbers are what a table of items has.
+#[derive(Clone, Copy, PartialEq, Eq)]
+pub enum ItemKind {
+    Whitespace = 1,
+    Newline,
+    BlockComment,
+    LineComment,
+    Unterminated,
+}
 
-pub const BLOCK_COMMENT: usize = 3;
-
-pub const LINE_COMMENT: usize = 4;
-
-pub const UNTERMINATED: usize = 5;
+impl ItemKind {
+    pub fn number(self) -> u32
+        ensures { result ≡ item_number self }
+    {
+        self as u32
+    }
+}

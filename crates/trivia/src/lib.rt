@@ -9,26 +9,29 @@ ghost use Rattle.reading.specs.Table.{max_text, first_high};
 ghost use Rattle.reading.specs.Items.{trivia_items};
 ghost use Rattle.cursor.specs.Text.{Skips};
 ghost use Rattle.trivia.specs.Answers.{told, listed, high_of, Lists};
-ghost use Rattle.trivia.specs.Class.{among, starts, goes, name_run};
+ghost use Rattle.trivia.specs.Class.{bit_of, among, starts, goes, name_run};
 ghost use Rattle.trivia.specs.Piece.{Starts, Nothing, trivia_of};
 
+use crate::class::Class;
 use cursor::Skip;
 use reading::MAX_TEXT;
 use table::Pos;
 
 pub mod class;
 mod comment;
-pub mod kind;
+mod error;
+mod kind;
+
+pub use error::ItemsError;
+pub use kind::ItemKind;
 
 // The end of the run that starts here, of bytes of the class if `inside` is set, and of bytes that are not of it if not.
-pub fn run_end(s: &[u8], at: Pos, class: u32, inside: bool) -> Pos
-    requires { class < 8 }
-    ensures { result.0 ≡ at.0 + run (among class inside) (drop at.0 s.now) }
+pub fn run_end(s: &[u8], at: Pos, class: Class, inside: bool) -> Pos
+    ensures { result.0 ≡ at.0 + run (among (bit_of class) inside) (drop at.0 s.now) }
 {
-    let masks = class::masks();
     let mut i = at.0;
     while i < s.len() {
-        if !class::among(&masks, s[i], class, inside) {
+        if !class.among(s[i], inside) {
             return Pos(i);
         }
         i += 1;
@@ -48,10 +51,9 @@ pub fn name_end(s: &[u8], at: Pos, also: u8) -> Pos
     if !(class::letter(b) | (b == also)) {
         return at;
     }
-    let masks = class::masks();
     i += 1;
     while i < s.len() {
-        if !class::goes_on(&masks, s[i], also) {
+        if !class::goes_on(s[i], also) {
             return Pos(i);
         }
         i += 1;
@@ -70,14 +72,7 @@ pub fn digits_end(s: &[u8], at: Pos) -> Pos
     if !class::digit(s[i]) {
         return at;
     }
-    run_end(s, at, class::DIGIT, true)
-}
-
-// Where a comment ends, or that the text ends first.
-#[derive(Clone, Copy)]
-pub enum Close {
-    At(Pos),
-    Open,
+    run_end(s, at, Class::Digit, true)
 }
 
 // The byte stands here.
@@ -102,38 +97,42 @@ pub fn two_are(s: &[u8], at: Pos, a: u8, b: u8) -> bool
     (a == s[i]) & byte_is(s, Pos(i + 1), b)
 }
 
-// One item of trivia: its kind and its end.
+// One item of trivia.
 #[derive(Clone, Copy)]
-pub enum Piece {
-    Item(usize, Pos),
-    No,
+pub struct Item {
+    pub kind: ItemKind,
+    pub end: Pos,
 }
 
 // What starts at a slash: a comment, or nothing.
-fn comment_item(s: &[u8], at: Pos) -> Piece
+fn comment_item(s: &[u8], at: Pos) -> Option<Item>
     requires at_in_bounds { at.0 < length s.now }
     requires at_value { get_or s.now at.0 0 ≡ 47 }
     ensures { Starts s.now at.0 result }
 {
     let behind = at.0 + 2;
     if two_are(s, at, b'/', b'*') {
-        let close = comment::c_comment(s, Pos(behind));
-        match close {
-            Close::At(end) => {
-                return Piece::Item(kind::BLOCK_COMMENT, end);
-            }
-            Close::Open => {
-                return Piece::Item(kind::UNTERMINATED, Pos(s.len()));
-            }
-        }
+        return Some(match comment::c_comment(s, Pos(behind)) {
+            Some(end) => Item {
+                kind: ItemKind::BlockComment,
+                end,
+            },
+            None => Item {
+                kind: ItemKind::Unterminated,
+                end: Pos(s.len()),
+            },
+        });
     }
     if two_are(s, at, b'/', b'/') {
         let end = comment::line_end(s, Pos(behind));
         if behind < end.0 {
-            return Piece::Item(kind::LINE_COMMENT, end);
+            return Some(Item {
+                kind: ItemKind::LineComment,
+                end,
+            });
         }
     }
-    Piece::No
+    None
 }
 
 // The end of the blanks that go on here. Most often a blank stands alone, which the next byte tells.
@@ -147,38 +146,47 @@ fn blanks_end(s: &[u8], at: Pos) -> Pos
     if !class::blank(s[i]) {
         return at;
     }
-    run_end(s, at, class::BLANK, true)
+    run_end(s, at, Class::Blank, true)
 }
 
 // What starts here. Most bytes stand above the space and start nothing; they are answered first.
-pub fn trivia_item(s: &[u8], at: Pos) -> Piece
+pub fn trivia_item(s: &[u8], at: Pos) -> Option<Item>
     ensures { Starts s.now at.0 result }
 {
     let low = at.0;
     if s.len() <= low {
-        return Piece::No;
+        return None;
     }
     let b = s[low];
     if b' ' < b {
         if b == b'/' {
             return comment_item(s, at);
         }
-        return Piece::No;
+        return None;
     }
     if class::blank(b) {
         let end = blanks_end(s, Pos(low + 1));
-        return Piece::Item(kind::WHITESPACE, end);
+        return Some(Item {
+            kind: ItemKind::Whitespace,
+            end,
+        });
     }
     match b {
-        b'\n' => Piece::Item(kind::NEWLINE, Pos(low + 1)),
+        b'\n' => Some(Item {
+            kind: ItemKind::Newline,
+            end: Pos(low + 1),
+        }),
         b'\r' => {
             if byte_is(s, Pos(low + 1), b'\n') {
-                Piece::Item(kind::NEWLINE, Pos(low + 2))
+                Some(Item {
+                    kind: ItemKind::Newline,
+                    end: Pos(low + 2),
+                })
             } else {
-                Piece::No
+                None
             }
         }
-        _ => Piece::No,
+        _ => None,
     }
 }
 
@@ -190,15 +198,14 @@ fn skip(s: &[u8], at: Pos, met: bool, lines: bool) -> Skip
     let mut i = at.0;
     let mut m = met;
     loop {
-        let piece = trivia_item(s, Pos(i));
-        let Piece::Item(kind, end) = piece else {
+        let Some(item) = trivia_item(s, Pos(i)) else {
             return Skip { at: Pos(i), met: m };
         };
-        if (kind == kind::NEWLINE) & !lines {
+        if (item.kind == ItemKind::Newline) & !lines {
             return Skip { at: Pos(i), met: m };
         }
-        i = end.0;
-        m = m | (kind == kind::UNTERMINATED);
+        i = item.end.0;
+        m = m | (item.kind == ItemKind::Unterminated);
         if bare(s, Pos(i), lines) {
             return Skip { at: Pos(i), met: m };
         }
@@ -239,13 +246,6 @@ pub fn multiline_trivia(s: &[u8], at: Pos, met: bool) -> Skip
     skip(s, at, met, true)
 }
 
-// Where the first byte of 128 or more stands.
-#[derive(Clone, Copy)]
-pub enum High {
-    At(Pos),
-    No,
-}
-
 // There is a byte of 128 or more. Every byte is looked at, so that the compiler compares many at once.
 fn any_high(s: &[u8]) -> bool
     ensures { result ≡ false → none ≡ first_high 0 s.now }
@@ -259,27 +259,28 @@ fn any_high(s: &[u8]) -> bool
     found
 }
 
-pub fn first_high(s: &[u8]) -> High
+// Where the first byte of 128 or more stands.
+pub fn first_high(s: &[u8]) -> Option<Pos>
     ensures { high_of result ≡ first_high 0 s.now }
 {
     if !any_high(s) {
-        return High::No;
+        return None;
     }
     high_byte(s)
 }
 
 // The same, byte by byte.
-fn high_byte(s: &[u8]) -> High
+fn high_byte(s: &[u8]) -> Option<Pos>
     ensures { high_of result ≡ first_high 0 s.now }
 {
     let mut i: usize = 0;
     while i < s.len() {
         if 128 <= s[i] {
-            return High::At(Pos(i));
+            return Some(Pos(i));
         }
         i += 1;
     }
-    High::No
+    None
 }
 
 // An item's words in a table: kind, low, high.
@@ -300,53 +301,39 @@ fn list_items(text: &[u8], table: &mut [u32]) -> Listing
     let mut i: usize = 0;
     let mut n: usize = 0;
     loop {
-        let piece = trivia_item(text, Pos(i));
-        let Piece::Item(kind, end) = piece else {
+        let Some(item) = trivia_item(text, Pos(i)) else {
             return Listing {
                 count: n,
                 end: Pos(i),
             };
         };
-        table::push_error(table, n, kind, Pos(i), end);
-        i = end.0;
+        table::push_error(table, n, item.kind.number() as usize, Pos(i), item.end);
+        i = item.end.0;
         n += 1;
     }
 }
 
-// The number of items, or a refusal with what it gives.
-#[derive(Clone, Copy)]
-pub enum ItemsAnswer {
-    Count(usize),
-    TooLong(usize),
-    HighByte(usize),
-    NoItem(usize),
-    NoRoom(usize),
-}
-
 // The items of one trivia run. They are counted first with no table, since a text that is no run leaves the table as it was.
-pub fn items(text: &[u8], table: &mut [u32]) -> ItemsAnswer
+pub fn items(text: &[u8], table: &mut [u32]) -> Result<usize, ItemsError>
     ensures { listed (told result) table.new ≡ trivia_items text.now table.old }
 {
     if MAX_TEXT < text.len() {
-        return ItemsAnswer::TooLong(text.len());
+        return Err(ItemsError::TooLong(text.len()));
     }
-    let high = first_high(text);
-    if let High::At(at) = high {
-        return ItemsAnswer::HighByte(at.0);
+    if let Some(at) = first_high(text) {
+        return Err(ItemsError::HighByte(at.0));
     }
-    let mut none = [0u32; 0];
-    let listing = list_items(text, &mut none);
+    let listing = list_items(text, &mut []);
     let end = listing.end.0;
     let n = listing.count;
     if end < text.len() {
-        return ItemsAnswer::NoItem(end);
+        return Err(ItemsError::NoItem(end));
     }
-    let words = table.len();
-    if words / ITEM < n {
-        table::zero(table, 0);
-        return ItemsAnswer::NoRoom(n);
+    if table.len() / ITEM < n {
+        table.fill(0);
+        return Err(ItemsError::NoRoom(n));
     }
     list_items(text, table);
-    table::zero(table, n * ITEM);
-    ItemsAnswer::Count(n)
+    table[n * ITEM..].fill(0);
+    Ok(n)
 }

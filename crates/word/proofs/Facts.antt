@@ -16,9 +16,9 @@ use Rattle.reading.proofs.Bool.{and_left, and_right}
 use Rattle.cursor.specs.Word.{word_or, first_word}
 use Rattle.cursor.proofs.Places.{leaf_within}
 use Rattle.word.specs.Hash.{spelt}
-use Rattle.word.specs.Words.{modifiers, term_operators, expression_operators, encodings, mnemonic_list, picked_of}
-use Rattle.word.specs.declared.Picked.{Picked}
-use Rattle.word.specs.declared.Picked.TheVariants.{Word}
+use Rattle.std.specs.Prelude.{Option as Optional, Some}
+use Rattle.word.specs.Words.{modifiers, term_operators, expression_operators, encodings, mnemonic_list, word, picked_of}
+use Rattle.word.specs.declared.Word.{Word}
 
 -- The rules ----------------------------------------------------------------
 
@@ -115,15 +115,14 @@ first_slight (x ∷ xs) s i n d u h e =
           record { some_bytes = omega arith; within = omega arith; short = omega arith; low = omega arith }
     ]) refl e
 
-picked_some : (o : Option (ℕ × ℕ)) (n d : ℕ) → picked_of o ≡ Word n d → o ≡ some (n, d)
+picked_some : (o : Option (ℕ × ℕ)) (n d : ℕ) → picked_of o ≡ Some (word n d) → o ≡ some (n, d)
 unfolding picked_of
 picked_some none n d e = cc
 picked_some (some w) n d e =
-    let a : w.0 ≡ n = cc in
-    let b : w.1 ≡ d = cc in
-    ap₂ (λ (x y : ℕ). some (x, y)) a b
+    let q : word w.0 w.1 ≡ word n d = cc in
+    ap₂ (λ (x y : ℕ). some (x, y)) (ap (λ (v : Word). v.length) q) (ap (λ (v : Word). v.detail) q)
 
 -- the list's test is `tt`, or mnemonics_slight; then what the reader ensures, and what its answer was found to be
-pub picked_slight : (xs : List (Leaf × ℕ)) (s : List ℕ) (i : ℕ) {n d : ℕ} {r : Picked} → T (slight xs) → i ≤ length s
-    → r ≡ picked_of (first_word xs (drop i s)) → r ≡ Word n d → Slight s i n d
+pub picked_slight : (xs : List (Leaf × ℕ)) (s : List ℕ) (i : ℕ) {n d : ℕ} {r : Optional Word} → T (slight xs) → i ≤ length s
+    → r ≡ picked_of (first_word xs (drop i s)) → r ≡ Some (word n d) → Slight s i n d
 picked_slight xs s i {n} {d} u h e f = first_slight xs s i n d u h (picked_some (first_word xs (drop i s)) n d (sym e ∙ f))

@@ -16,18 +16,19 @@ use Rattle.cursor.specs.Word.{word_or, first_word}
 use Rattle.cursor.proofs.Places.{cons, begins_no_case_at}
 use Rattle.word.specs.Hash.{spelt, letter}
 use Rattle.word.specs.Words.{picked_of, two_or}
-use Rattle.word.specs.declared.Picked.{Picked}
+use Rattle.word.specs.declared.Word.{Word}
+use Rattle.std.specs.Prelude.{Option as Optional}
 use Rattle.word.proofs.Arms.{Others, keyed, apart}
 
 -- By the first byte --------------------------------------------------------
 
 -- from the byte at a place to the place
-pub at_byte : (xs : List (Leaf × ℕ)) (s : List ℕ) (i b : ℕ) {r : Picked} → i < length s → get_or s i 0 ≡ b
+pub at_byte : (xs : List (Leaf × ℕ)) (s : List ℕ) (i b : ℕ) {r : Optional Word} → i < length s → get_or s i 0 ≡ b
     → r ≡ picked_of (first_word xs (b ∷ drop (i + 1) s)) → r ≡ picked_of (first_word xs (drop i s))
 at_byte xs s i b h e p =
     p ∙ ap (λ (x : ℕ). picked_of (first_word xs (x ∷ drop (i + 1) s))) (sym e) ∙ ap (λ (t : List ℕ). picked_of (first_word xs t)) (sym (cons s i h))
 
-pub at_end : (xs : List (Leaf × ℕ)) (s : List ℕ) (i : ℕ) {r : Picked} → length s ≤ i → r ≡ picked_of (first_word xs [])
+pub at_end : (xs : List (Leaf × ℕ)) (s : List ℕ) (i : ℕ) {r : Optional Word} → length s ≤ i → r ≡ picked_of (first_word xs [])
     → r ≡ picked_of (first_word xs (drop i s))
 at_end xs s i h p = p ∙ ap (λ (t : List ℕ). picked_of (first_word xs t)) (sym (drop_of_length-le s h))
 

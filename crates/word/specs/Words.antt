@@ -1,11 +1,10 @@
 -- The lists of words that a reader chooses from, as the rules have them, and the answer that a choice asks for.
-use Rattle.std.specs.Prelude.{Bool, true, false, List, [], ◌∷◌, ℕ}
-use Rattle.std.proofs.Math.Option.{Option, none, some}
+use Rattle.std.specs.Prelude.{Option, Some, None, Bool, true, false, List, [], ◌∷◌, ℕ}
+use Rattle.std.proofs.Math.Option.{Option as Maybe, none, some}
 use Rattle.reading.specs.Grammar.{Leaf}
 use Rattle.reading.specs.Mnemonic.{◌↦ⁿ◌, mnemonics, implied_mnemonics}
 use Rattle.reading.specs.Rules.{◌↦ᵗ◌}
-use Rattle.word.specs.declared.Picked.{Picked}
-use Rattle.word.specs.declared.Picked.TheVariants.{Word, Nothing}
+use Rattle.word.specs.declared.Word.{Word}
 
 abbrev pub modifiers : List (Leaf × ℕ)
 modifiers = "<" ↦ᵗ 2 ∷ ">" ↦ᵗ 1 ∷ []
@@ -25,12 +24,15 @@ abbrev pub mnemonic_list : Bool → List (Leaf × ℕ)
 mnemonic_list true = implied_mnemonics
 mnemonic_list false = mnemonics
 
+abbrev pub word : ℕ → ℕ → Word
+word n d = record { length = n; detail = d }
+
 -- the answer for a first word
-unfoldable pub picked_of : Option (ℕ × ℕ) → Picked
-picked_of none = Nothing
-picked_of (some w) = Word w.0 w.1
+unfoldable pub picked_of : Maybe (ℕ × ℕ) → Option Word
+picked_of none = None
+picked_of (some w) = Some (word w.0 w.1)
 
 -- a word of two bytes with this detail, if the test says so, else another answer
-unfoldable pub two_or : Bool → ℕ → Picked → Picked
-two_or true d p = Word 2 d
+unfoldable pub two_or : Bool → ℕ → Option Word → Option Word
+two_or true d p = Some (word 2 d)
 two_or false d p = p

@@ -11,18 +11,18 @@ use table::Pos;
 pub mod mnemonic;
 pub mod operator;
 
-// A word of a list: its length and its detail.
+// A word of a list.
 #[derive(Clone, Copy)]
-pub enum Picked {
-    Word(usize, usize),
-    Nothing,
+pub struct Word {
+    pub length: usize,
+    pub detail: usize,
 }
 
 // A letter in lower case; any other byte as it is.
 pub fn lower(b: u8) -> u8
     ensures { result ≡ lower b }
 {
-    if (65 <= b) & (b <= 90) { b + 32 } else { b }
+    b.to_ascii_lowercase()
 }
 
 // Whether a word stands at a place, in any letter case. The word is given in lower case.
@@ -45,18 +45,27 @@ pub fn begins(s: &[u8], at: Pos, word: &[u8]) -> bool
 }
 
 // `ascii` `petscii` `petscreen`
-pub fn encoding(s: &[u8], at: Pos) -> Picked
+pub fn encoding(s: &[u8], at: Pos) -> Option<Word>
     requires { at.0 ≤ length s.now }
     ensures { result ≡ picked_of (first_word encodings (drop at.0 s.now)) }
 {
     if begins(s, at, b"ascii") {
-        return Picked::Word(5, 1);
+        return Some(Word {
+            length: 5,
+            detail: 1,
+        });
     }
     if begins(s, at, b"petscii") {
-        return Picked::Word(7, 2);
+        return Some(Word {
+            length: 7,
+            detail: 2,
+        });
     }
     if begins(s, at, b"petscreen") {
-        return Picked::Word(9, 3);
+        return Some(Word {
+            length: 9,
+            detail: 3,
+        });
     }
-    Picked::Nothing
+    None
 }

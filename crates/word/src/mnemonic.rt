@@ -5,7 +5,7 @@ ghost use Rattle.reading.specs.Mnemonic.{mnemonics, implied_mnemonics};
 ghost use Rattle.word.specs.Hash.{entry_at, detail_of};
 ghost use Rattle.word.specs.Words.{picked_of, mnemonic_list};
 
-use crate::{Picked, lower};
+use crate::{Word, lower};
 use table::Pos;
 
 // The word with a hash, its detail before its letters, of those that may have an operand; 0 where there is none. A `match` this dense is
@@ -109,20 +109,23 @@ fn detail(letters: u64, implied: bool) -> usize
 }
 
 // The mnemonic at a place, of the words that may have an operand or of the implied ones.
-pub fn mnemonic(s: &[u8], at: Pos, implied: bool) -> Picked
+pub fn mnemonic(s: &[u8], at: Pos, implied: bool) -> Option<Word>
     requires { at.0 ≤ length s.now }
     ensures { result ≡ picked_of (first_word (mnemonic_list implied) (drop at.0 s.now)) }
 {
     let i = at.0;
     if s.len() - i < 3 {
-        return Picked::Nothing;
+        return None;
     }
     let a = lower(s[i]) as u64;
     let b = lower(s[i + 1]) as u64;
     let c = lower(s[i + 2]) as u64;
     let d = detail(a * 65536 + b * 256 + c, implied);
     if d == 0 {
-        return Picked::Nothing;
+        return None;
     }
-    Picked::Word(3, d)
+    Some(Word {
+        length: 3,
+        detail: d,
+    })
 }

@@ -1,14 +1,21 @@
 // Operators and modifiers: the first byte tells which, and at some of them the second.
-ghost use Rattle.std.specs.Prelude.{[], ◌∷◌, ◌≡◌, ◌+◌, ◌≤◌, ◌<◌, length, drop};
+ghost use Rattle.std.specs.Prelude.{Some, [], ◌∷◌, ◌≡◌, ◌+◌, ◌≤◌, ◌<◌, length, drop};
 ghost use Rattle.cursor.specs.Word.{first_word};
 ghost use Rattle.reading.specs.Byte.{begins};
-ghost use Rattle.word.specs.Words.{picked_of, two_or, term_operators, expression_operators, modifiers};
+ghost use Rattle.word.specs.Words.{word, picked_of, two_or, term_operators, expression_operators, modifiers};
 
-use crate::Picked;
+use crate::Word;
 use table::Pos;
 
+// The word of one byte.
+fn one(detail: usize) -> Option<Word>
+    ensures { result ≡ Some (word 1 detail) }
+{
+    Some(Word { length: 1, detail })
+}
+
 // The word of two bytes, if the second is `b`, else the other answer. The first stands at `at`.
-fn second(s: &[u8], at: Pos, b: u8, detail: usize, other: Picked) -> Picked
+fn second(s: &[u8], at: Pos, b: u8, detail: usize, other: Option<Word>) -> Option<Word>
     requires { at.0 < length s.now }
     ensures { result ≡ two_or (begins (b ∷ []) (drop (at.0 + 1) s.now)) detail other }
 {
@@ -17,65 +24,65 @@ fn second(s: &[u8], at: Pos, b: u8, detail: usize, other: Picked) -> Picked
         return other;
     }
     if s[i] == b {
-        return Picked::Word(2, detail);
+        return Some(Word { length: 2, detail });
     }
     other
 }
 
 // `*` `/` `%` `<<` `>>` `^`
-pub fn term_operator(s: &[u8], at: Pos) -> Picked
+pub fn term_operator(s: &[u8], at: Pos) -> Option<Word>
     requires { at.0 ≤ length s.now }
     ensures { result ≡ picked_of (first_word term_operators (drop at.0 s.now)) }
 {
     let i = at.0;
     if s.len() <= i {
-        return Picked::Nothing;
+        return None;
     }
     match s[i] {
-        b'*' => Picked::Word(1, 3),
-        b'/' => Picked::Word(1, 4),
-        b'%' => Picked::Word(1, 5),
-        b'<' => second(s, at, b'<', 6, Picked::Nothing),
-        b'>' => second(s, at, b'>', 7, Picked::Nothing),
-        b'^' => Picked::Word(1, 8),
-        _ => Picked::Nothing,
+        b'*' => one(3),
+        b'/' => one(4),
+        b'%' => one(5),
+        b'<' => second(s, at, b'<', 6, None),
+        b'>' => second(s, at, b'>', 7, None),
+        b'^' => one(8),
+        _ => None,
     }
 }
 
 // `+` `-` `==` `!=` `>=` `<=` `>` `<` `&&` `||`
-pub fn expression_operator(s: &[u8], at: Pos) -> Picked
+pub fn expression_operator(s: &[u8], at: Pos) -> Option<Word>
     requires { at.0 ≤ length s.now }
     ensures { result ≡ picked_of (first_word expression_operators (drop at.0 s.now)) }
 {
     let i = at.0;
     if s.len() <= i {
-        return Picked::Nothing;
+        return None;
     }
     match s[i] {
-        b'+' => Picked::Word(1, 1),
-        b'-' => Picked::Word(1, 2),
-        b'=' => second(s, at, b'=', 9, Picked::Nothing),
-        b'!' => second(s, at, b'=', 10, Picked::Nothing),
-        b'>' => second(s, at, b'=', 12, Picked::Word(1, 11)),
-        b'<' => second(s, at, b'=', 14, Picked::Word(1, 13)),
-        b'&' => second(s, at, b'&', 15, Picked::Nothing),
-        b'|' => second(s, at, b'|', 16, Picked::Nothing),
-        _ => Picked::Nothing,
+        b'+' => one(1),
+        b'-' => one(2),
+        b'=' => second(s, at, b'=', 9, None),
+        b'!' => second(s, at, b'=', 10, None),
+        b'>' => second(s, at, b'=', 12, one(11)),
+        b'<' => second(s, at, b'=', 14, one(13)),
+        b'&' => second(s, at, b'&', 15, None),
+        b'|' => second(s, at, b'|', 16, None),
+        _ => None,
     }
 }
 
 // `<` `>`
-pub fn modifier(s: &[u8], at: Pos) -> Picked
+pub fn modifier(s: &[u8], at: Pos) -> Option<Word>
     requires { at.0 ≤ length s.now }
     ensures { result ≡ picked_of (first_word modifiers (drop at.0 s.now)) }
 {
     let i = at.0;
     if s.len() <= i {
-        return Picked::Nothing;
+        return None;
     }
     match s[i] {
-        b'<' => Picked::Word(1, 2),
-        b'>' => Picked::Word(1, 1),
-        _ => Picked::Nothing,
+        b'<' => one(2),
+        b'>' => one(1),
+        _ => None,
     }
 }

@@ -3,13 +3,13 @@ use mathlib.Core.Path.{sym, ◌∙◌}
 use Rattle.trivia.proofs.Pieces.{starts_closed, starts_open, starts_line, starts_bare, starts_slash}
 use Rattle.trivia.proofs.comment_item.Goals as goal
 
-pub returns-in-At : goal.returns-in-At
-returns-in-At c =
-    starts_closed _ _ c.requires.at_in_bounds c.requires.at_value (sym c.two_are.ensures ∙ c.if-two_are.true) c.c_comment-close.ensures _ c.in-At.is
+pub returns-in-Some : goal.returns-in-Some
+returns-in-Some c =
+    starts_closed _ _ c.requires.at_in_bounds c.requires.at_value (sym c.two_are.ensures ∙ c.if-two_are.true) c.c_comment.ensures _ c.in-Some.is
 
-pub returns-in-Open : goal.returns-in-Open
-returns-in-Open c =
-    starts_open _ _ c.requires.at_in_bounds c.requires.at_value (sym c.two_are.ensures ∙ c.if-two_are.true) c.c_comment-close.ensures c.in-Open.is
+pub returns-in-None : goal.returns-in-None
+returns-in-None c =
+    starts_open _ _ c.requires.at_in_bounds c.requires.at_value (sym c.two_are.ensures ∙ c.if-two_are.true) c.c_comment.ensures c.in-None.is
 
 pub returns-then-behind-end : goal.returns-then-behind-end
 returns-then-behind-end c =

@@ -5,21 +5,21 @@ use Rattle.trivia.proofs.Walk.{item_bounds}
 use Rattle.trivia.proofs.list_items.Goals as goal
 
 pub returns-in_default : goal.returns-in_default
-returns-in_default c = passed_all c.loop-kind.invariant.1 c.trivia_item-piece.ensures c.in_default.is
+returns-in_default c = passed_all c.loop-item.invariant.1 c.trivia_item.ensures c.in_default.is
 
 pub push_error-requires : goal.push_error-requires
 push_error-requires c =
-    let m = item_bounds c.trivia_item-piece.ensures _ _ c.in-Item.is in
+    let m = item_bounds c.trivia_item.ensures _ c.in-Some.is in
     (omega arith, omega arith, omega arith)
 
-pub loop-kind-smaller : goal.loop-kind-smaller
-loop-kind-smaller c =
-    let m = item_bounds c.trivia_item-piece.ensures _ _ c.in-Item.is in
+pub loop-item-smaller : goal.loop-item-smaller
+loop-item-smaller c =
+    let m = item_bounds c.trivia_item.ensures _ c.in-Some.is in
     omega (arith, m.0, m.1)
 
-pub loop-kind-preserved : goal.loop-kind-preserved
-loop-kind-preserved c = (
-  c.push_error.auto.errors ∙ c.loop-kind.invariant.0,
-  passed_more c.loop-kind.invariant.1 c.trivia_item-piece.ensures _ _
-      c.in-Item.is c.push_error.ensures,
+pub loop-item-preserved : goal.loop-item-preserved
+loop-item-preserved c = (
+  c.push_error.auto.errors ∙ c.loop-item.invariant.0,
+  passed_more c.loop-item.invariant.1 c.trivia_item.ensures _ c.in-Some.is
+      (rw c.number.ensures at c.push_error.ensures),
 )

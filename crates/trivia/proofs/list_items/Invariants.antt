@@ -5,8 +5,8 @@ use lib.ListN.{length}
 use Rattle.trivia.proofs.Entries.{Passed}
 use Rattle.trivia.proofs.list_items.Given as goal
 
-abbrev pub invariant-loop-kind : goal.invariant-loop-kind
-invariant-loop-kind l = (length l.table ≡ length l.initial.table) × Passed l.text l.table l.i l.n
+abbrev pub invariant-loop-item : goal.invariant-loop-item
+invariant-loop-item l = (length l.table ≡ length l.initial.table) × Passed l.text l.table l.i l.n
 
-abbrev pub decreases-loop-kind : goal.decreases-loop-kind
-decreases-loop-kind l = length l.text - l.i
+abbrev pub decreases-loop-item : goal.decreases-loop-item
+decreases-loop-item l = length l.text - l.i

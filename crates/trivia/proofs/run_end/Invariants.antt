@@ -3,11 +3,11 @@ use mathlib.Core.Path.{◌≡◌}
 use Prim.Native.Nat.{◌+◌, ◌-◌}
 use lib.ListN.{length, drop}
 use Rattle.reading.specs.Byte.{run}
-use Rattle.trivia.specs.Class.{among}
+use Rattle.trivia.specs.Class.{bit_of, among}
 use Rattle.trivia.proofs.run_end.Given as goal
 
 abbrev pub invariant-loop-i : goal.invariant-loop-i
-invariant-loop-i l = l.initial.i + run (among l.class l.inside) (drop l.initial.i l.s) ≡ l.i + run (among l.class l.inside) (drop l.i l.s)
+invariant-loop-i l = l.initial.i + run (among (bit_of l.class) l.inside) (drop l.initial.i l.s) ≡ l.i + run (among (bit_of l.class) l.inside) (drop l.i l.s)
 
 abbrev pub decreases-loop-i : goal.decreases-loop-i
 decreases-loop-i l = length l.s - l.i

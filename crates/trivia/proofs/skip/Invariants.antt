@@ -4,8 +4,8 @@ use lib.ListN.{length}
 use Rattle.trivia.proofs.Walk.{Walked}
 use Rattle.trivia.proofs.skip.Given as goal
 
-abbrev pub invariant-loop-kind : goal.invariant-loop-kind
-invariant-loop-kind l = Walked l.lines l.s l.initial.i l.met l.i l.m
+abbrev pub invariant-loop-item : goal.invariant-loop-item
+invariant-loop-item l = Walked l.lines l.s l.initial.i l.met l.i l.m
 
-abbrev pub decreases-loop-kind : goal.decreases-loop-kind
-decreases-loop-kind l = length l.s - l.i
+abbrev pub decreases-loop-item : goal.decreases-loop-item
+decreases-loop-item l = length l.s - l.i

@@ -19,13 +19,13 @@ pub returns-in-43 : goal.returns-in-43
 unfolding first_word picked_of
 returns-in-43 c =
     let a = c.args in
-    at_byte expression_operators a.s.now a.at.0 43 c.if-s-i.false c.in-43.is refl
+    at_byte expression_operators a.s.now a.at.0 43 c.if-s-i.false c.in-43.is c.one.ensures
 
 pub returns-in-45 : goal.returns-in-45
 unfolding first_word picked_of
 returns-in-45 c =
     let a = c.args in
-    at_byte expression_operators a.s.now a.at.0 45 c.if-s-i.false c.in-45.is refl
+    at_byte expression_operators a.s.now a.at.0 45 c.if-s-i.false c.in-45.is c.one-in-45.ensures
 
 pub returns-in-61 : goal.returns-in-61
 unfolding first_word picked_of
@@ -43,13 +43,13 @@ pub returns-in-62 : goal.returns-in-62
 unfolding first_word picked_of
 returns-in-62 c =
     let a = c.args in
-    at_byte expression_operators a.s.now a.at.0 62 c.if-s-i.false c.in-62.is (c.second-in-62.ensures ∙ two_is _ _ (some (1, 11)))
+    at_byte expression_operators a.s.now a.at.0 62 c.if-s-i.false c.in-62.is (rw c.one-in-62.ensures at c.second-in-62.ensures ∙ two_is _ _ (some (1, 11)))
 
 pub returns-in-60 : goal.returns-in-60
 unfolding first_word picked_of
 returns-in-60 c =
     let a = c.args in
-    at_byte expression_operators a.s.now a.at.0 60 c.if-s-i.false c.in-60.is (c.second-in-60.ensures ∙ two_is _ _ (some (1, 13)))
+    at_byte expression_operators a.s.now a.at.0 60 c.if-s-i.false c.in-60.is (rw c.one-in-60.ensures at c.second-in-60.ensures ∙ two_is _ _ (some (1, 13)))
 
 pub returns-in-38 : goal.returns-in-38
 unfolding first_word picked_of

@@ -16,13 +16,13 @@ pub returns-in-60 : goal.returns-in-60
 unfolding first_word picked_of
 returns-in-60 c =
     let a = c.args in
-    at_byte modifiers a.s.now a.at.0 60 c.if-s-i.false c.in-60.is refl
+    at_byte modifiers a.s.now a.at.0 60 c.if-s-i.false c.in-60.is c.one.ensures
 
 pub returns-in-62 : goal.returns-in-62
 unfolding first_word picked_of
 returns-in-62 c =
     let a = c.args in
-    at_byte modifiers a.s.now a.at.0 62 c.if-s-i.false c.in-62.is refl
+    at_byte modifiers a.s.now a.at.0 62 c.if-s-i.false c.in-62.is c.one-in-62.ensures
 
 pub returns-in_default : goal.returns-in_default
 unfolding picked_of

@@ -17,19 +17,19 @@ pub returns-in-42 : goal.returns-in-42
 unfolding first_word picked_of
 returns-in-42 c =
     let a = c.args in
-    at_byte term_operators a.s.now a.at.0 42 c.if-s-i.false c.in-42.is refl
+    at_byte term_operators a.s.now a.at.0 42 c.if-s-i.false c.in-42.is c.one.ensures
 
 pub returns-in-47 : goal.returns-in-47
 unfolding first_word picked_of
 returns-in-47 c =
     let a = c.args in
-    at_byte term_operators a.s.now a.at.0 47 c.if-s-i.false c.in-47.is refl
+    at_byte term_operators a.s.now a.at.0 47 c.if-s-i.false c.in-47.is c.one-in-47.ensures
 
 pub returns-in-37 : goal.returns-in-37
 unfolding first_word picked_of
 returns-in-37 c =
     let a = c.args in
-    at_byte term_operators a.s.now a.at.0 37 c.if-s-i.false c.in-37.is refl
+    at_byte term_operators a.s.now a.at.0 37 c.if-s-i.false c.in-37.is c.one-in-37.ensures
 
 pub returns-in-60 : goal.returns-in-60
 unfolding first_word picked_of
@@ -47,7 +47,7 @@ pub returns-in-94 : goal.returns-in-94
 unfolding first_word picked_of
 returns-in-94 c =
     let a = c.args in
-    at_byte term_operators a.s.now a.at.0 94 c.if-s-i.false c.in-94.is refl
+    at_byte term_operators a.s.now a.at.0 94 c.if-s-i.false c.in-94.is c.one-in-94.ensures
 
 pub returns-in_default : goal.returns-in_default
 unfolding picked_of
