@@ -10,7 +10,7 @@ use Rattle.reading.proofs.Tests.{quiet}
 use Rattle.reading.specs.Grammar.{Parser, node, always}
 use Rattle.reading.specs.Summary.{scan}
 use Rattle.table.specs.declared.Pos.{Pos}
-use Rattle.cursor.proofs.Agree.{lost, got_miss}
+use Rattle.cursor.proofs.Agree.{lost}
 use Rattle.cursor.proofs.Laws.{reading_to, node_out, node_got}
 use Rattle.cursor.specs.Agree.{full, Reading, Ready}
 use Rattle.cursor.specs.Text.{here, cursor, skip, Skips}

@@ -4,12 +4,13 @@ ghost use Rattle.reading.specs.Byte.{is};
 ghost use Rattle.reading.specs.Grammar.{leaf, one, run0, run1, tag_no_case, ◌▸◌, always};
 ghost use Rattle.reading.specs.Kind.{charᵏ};
 ghost use Rattle.table.specs.Kinds.{kind_number};
-ghost use Rattle.trivia.specs.Class.{among, starts, goes};
+ghost use Rattle.trivia.specs.Class.{bit_of, among, starts, goes};
 ghost use Rattle.lexis.specs.Behind.{Behind, Placed, Rowed};
 ghost use Rattle.lexis.specs.Finds.{Finds};
 
 use cursor::{Cursor, Read, Skip, Stop};
 use table::{Kind, Pos, RowIndex};
+use trivia::class::Class;
 
 // The row of what stands from `k.at` to `high`.
 pub fn row(c: Cursor, k: Skip, high: Pos, kind: Kind, detail: usize, rows: &mut [u32]) -> Read
@@ -64,14 +65,13 @@ pub fn run(
     s: &[u8],
     c: Cursor,
     k: Skip,
-    class: u32,
+    class: Class,
     inside: bool,
     kind: Kind,
     rows: &mut [u32],
 ) -> Read
-    requires placed { Placed s.now c k }
-    requires class_bound { class < 8 }
-    ensures { Behind (kind_number kind) (always 0) (leaf (run1 (among class inside))) s.now c k rows.old rows.new result }
+    requires { Placed s.now c k }
+    ensures { Behind (kind_number kind) (always 0) (leaf (run1 (among (bit_of class) inside))) s.now c k rows.old rows.new result }
 {
     let low = k.at;
     let high = trivia::run_end(s, low, class, inside);

@@ -12,19 +12,18 @@ ghost use Rattle.lexis.specs.Suffix.{register, suffix};
 use crate::mark;
 use cursor::{Cursor, Read, Skip, Stop};
 use table::{Kind, Pos};
-use word::Picked;
+use word::Word;
 
 // The row of a word that was picked at `k.at`, if one was.
-fn picked(c: Cursor, k: Skip, p: Picked, kind: Kind, rows: &mut [u32]) -> Read
+fn picked(c: Cursor, k: Skip, p: Option<Word>, kind: Kind, rows: &mut [u32]) -> Read
     requires count_bound { (c.count.0 < 2 ^ 32) × (c.at.0 < 2 ^ 32) × (k.at.0 < 2 ^ 32) }
     requires fitting { Fitting k.at.0 p }
     ensures { Chosen (kind_number kind) p c k rows.old rows.new result }
 {
-    let low = k.at;
-    let Picked::Word(n, d) = p else {
+    let Some(word) = p else {
         return Err(Stop::Miss(k.met));
     };
-    mark::row(c, k, Pos(low.0 + n), kind, d, rows)
+    mark::row(c, k, Pos(k.at.0 + word.length), kind, word.detail, rows)
 }
 
 pub fn term_operator(s: &[u8], c: Cursor, rows: &mut [u32]) -> Read

@@ -10,10 +10,10 @@ ghost use Rattle.literal.specs.Parts.{radix, numeral, decimals, value};
 use cursor::{Cursor, Read, Skip, Stop};
 use lexis::{Found, mark};
 use table::{Kind, Pos, RowIndex};
-use trivia::class;
+use trivia::class::Class;
 
 // The mark `$` or `%`, which stands behind the trivia, and digits behind trivia of their own.
-fn radix(s: &[u8], c: Cursor, k: Skip, mark: u8, ty: usize, class: u32, rows: &mut [u32]) -> Read
+fn radix(s: &[u8], c: Cursor, k: Skip, mark: u8, ty: usize, class: Class, rows: &mut [u32]) -> Read
     requires ready { Ready 4 s.now c }
     requires skips { Skips trivia s.now c.at.0 c.met k }
     requires s_value { (begins (mark ∷ []) (drop k.at.0 s.now) ≡ true) × (class < 8) × (ty < 2 ^ 32) }
@@ -75,11 +75,11 @@ fn value(s: &[u8], c: Cursor, k: Skip, rows: &mut [u32]) -> Read
     ensures { Leafs value s.now c rows.old rows.new result }
 {
     if trivia::byte_is(s, k.at, b'$') {
-        return radix(s, c, k, b'$', 1, class::HEX_DIGIT, rows);
+        return radix(s, c, k, b'$', 1, Class::HexDigit, rows);
     }
     let d = Cursor { met: k.met, ..c };
     if trivia::byte_is(s, k.at, b'%') {
-        return radix(s, d, k, b'%', 3, class::BINARY_DIGIT, rows);
+        return radix(s, d, k, b'%', 3, Class::BinaryDigit, rows);
     }
     decimal(s, d, k, rows)
 }

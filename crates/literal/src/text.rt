@@ -8,7 +8,7 @@ ghost use Rattle.literal.specs.Parts.{item_of, string_of};
 use cursor::{Cursor, Read, Skip, Stop};
 use lexis::{identifier, mark};
 use table::{Kind, Pos, RowIndex};
-use trivia::class;
+use trivia::class::Class;
 
 // A path in braces: only the path has a row.
 fn interpolation(s: &[u8], c: Cursor, rows: &mut [u32]) -> Read
@@ -42,7 +42,7 @@ fn item(s: &[u8], c: Cursor, interpolated: bool, rows: &mut [u32]) -> Read
         s,
         c,
         Skip { at, met: c.met },
-        class::ENDS_PIECE,
+        Class::EndsPiece,
         false,
         Kind::Piece,
         rows,

@@ -9,14 +9,14 @@ use cursor::Cursor;
 use lexis::mark;
 use state::{Done, State};
 use table::{Kind, Pos};
-use trivia::class;
+use trivia::class::Class;
 
 // Text up to a byte of the class, which is reported.
 fn error_text(
     s: &[u8],
     c: Cursor,
     st: State,
-    class: u32,
+    class: Class,
     rows: &mut [u32],
     errors: &mut [u32],
 ) -> Done
@@ -46,14 +46,14 @@ pub fn error(s: &[u8], c: Cursor, st: State, rows: &mut [u32], errors: &mut [u32
     requires { Fit 0 s.now c st }
     ensures { TellsLeaf error s.now c st rows.old rows.new errors.old errors.new result }
 {
-    error_text(s, c, st, class::ENDS_ERROR, rows, errors)
+    error_text(s, c, st, Class::EndsError, rows, errors)
 }
 
 pub fn error_in_block(s: &[u8], c: Cursor, st: State, rows: &mut [u32], errors: &mut [u32]) -> Done
     requires { Fit 0 s.now c st }
     ensures { TellsLeaf error_in_block s.now c st rows.old rows.new errors.old errors.new result }
 {
-    error_text(s, c, st, class::ENDS_ERROR_IN_BLOCK, rows, errors)
+    error_text(s, c, st, Class::EndsErrorInBlock, rows, errors)
 }
 
 // All that is left, behind trivia.

@@ -1,6 +1,5 @@
 -- No dot, or what stands behind it.
 use mathlib.Core.Path.{refl, sym, ◌∙◌}
-use borrow.Author.Tests.{not-true, not-false}
 use Rattle.lexis.specs.Finds.{identifier}
 use Rattle.lexis.proofs.Ends.{byte_at, byte_no, seq_at, seq_no}
 use Rattle.lexis.proofs.identifier.dotted.Goals as goal

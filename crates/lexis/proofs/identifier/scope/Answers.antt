@@ -1,7 +1,6 @@
 -- The text ends; no sign; a sign at the end; a sign with a letter or digit behind it; a sign alone.
 use mathlib.Core.Bool.{◌||◌}
 use mathlib.Core.Path.{refl, ap₂, sym, ◌∙◌}
-use borrow.Author.Tests.{not-true, not-false}
 use Rattle.reading.specs.Byte.{alphanumeric}
 use Rattle.lexis.proofs.Ends.{one_at, one_no, one_end, never_at, never_no}
 use Rattle.lexis.proofs.Paths.{scope_end, scope_no, scope_at}

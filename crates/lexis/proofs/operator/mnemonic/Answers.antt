@@ -1,5 +1,4 @@
 -- The first word of the list, behind what the caller skipped.
-use native.Mathlib.Omega.{arith}
 use Rattle.word.proofs.Facts.{mnemonics_slight}
 use Rattle.word.specs.Words.{mnemonic_list}
 use Rattle.lexis.proofs.Words.{picked_fits}

@@ -1,9 +1,7 @@
 -- The suffix, or nothing.
-use mathlib.Core.Path.{◌≡◌, ap, ◌∙◌}
+use mathlib.Core.Path.{ap, ◌∙◌}
 use native.Mathlib.Omega.{arith}
-use Rattle.std.proofs.Common.{rules}
 use Rattle.std.specs.Prelude.{Err}
-use Rattle.cursor.specs.declared.Stop.TheVariants.{Miss}
 use Rattle.lexis.proofs.Suffixes.{optional_first, optional_none}
 use Rattle.lexis.proofs.operator.optional_suffix.Goals as goal
 
