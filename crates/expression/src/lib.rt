@@ -56,8 +56,7 @@ fn sign(s: &[u8], c: Cursor, b: u8, rows: &mut [u32]) -> Cursor
     requires { Ready 4 s.now c }
     ensures { Maybe b s.now c rows.old rows.new result }
 {
-    let f = mark(s, c, b, rows);
-    match f {
+    match mark(s, c, b, rows) {
         Ok(d) => d,
         Err(Stop::Miss(met)) => Cursor { met, ..c },
         Err(Stop::Deep) => c,
@@ -79,8 +78,7 @@ fn modified_path(s: &[u8], c: Cursor, k: Skip, rows: &mut [u32]) -> Read
     requires skips { Skips trivia s.now c.at.0 c.met k }
     ensures { Leafs modified_path s.now c rows.old rows.new result }
 {
-    let f = operator::modifier(s, c, rows);
-    match f {
+    match operator::modifier(s, c, rows) {
         Ok(d) => {
             let j = trivia::trivia(s, d.at, d.met);
             identifier::path(s, d, j, rows)
@@ -138,7 +136,7 @@ pub fn expression(s: &[u8], c: Cursor, k: Skip, left: usize, rows: &mut [u32]) -
     let mut count = d.count.0;
     let mut met = d.met;
     loop {
-        let g = next_term(
+        match next_term(
             s,
             Cursor {
                 at: Pos(at),
@@ -147,8 +145,7 @@ pub fn expression(s: &[u8], c: Cursor, k: Skip, left: usize, rows: &mut [u32]) -
             },
             left,
             rows,
-        );
-        match g {
+        ) {
             Ok(e) => {
                 let n = e.count.0;
                 at = e.at.0;
@@ -202,7 +199,7 @@ pub fn expression_term(s: &[u8], c: Cursor, k: Skip, left: usize, rows: &mut [u3
     let mut count = d.count.0;
     let mut met = d.met;
     loop {
-        let g = next_factor(
+        match next_factor(
             s,
             Cursor {
                 at: Pos(at),
@@ -211,8 +208,7 @@ pub fn expression_term(s: &[u8], c: Cursor, k: Skip, left: usize, rows: &mut [u3
             },
             left,
             rows,
-        );
-        match g {
+        ) {
             Ok(e) => {
                 let n = e.count.0;
                 at = e.at.0;
@@ -261,7 +257,7 @@ pub fn expression_factor(s: &[u8], c: Cursor, k: Skip, left: usize, rows: &mut [
 {
     let count = c.count;
     let low = k.at;
-    let f = expression_factor_inner(
+    match expression_factor_inner(
         s,
         Cursor {
             at: low,
@@ -271,8 +267,7 @@ pub fn expression_factor(s: &[u8], c: Cursor, k: Skip, left: usize, rows: &mut [
         k,
         left,
         rows,
-    );
-    match f {
+    ) {
         Ok(d) => around(c, low, d, Kind::Factor, 0, rows),
         Err(Stop::Miss(met)) => signed(s, Cursor { met, ..c }, Skip { met, ..k }, left, rows),
         Err(Stop::Deep) => Err(Stop::Deep),
@@ -316,13 +311,13 @@ fn expression_factor_inner(s: &[u8], c: Cursor, k: Skip, left: usize, rows: &mut
     requires skips { Skips trivia s.now c.at.0 c.met k }
     ensures { Reads expression_factor_inner s.now c left rows.old rows.new result }
 {
-    let f = number::number(s, c, k, rows);
-    let Err(Stop::Miss(met)) = f else {
-        return f;
+    let met = match number::number(s, c, k, rows) {
+        Err(Stop::Miss(met)) => met,
+        read => return read,
     };
-    let g = fn_call(s, Cursor { met, ..c }, left, rows);
-    let Err(Stop::Miss(met)) = g else {
-        return g;
+    let met = match fn_call(s, Cursor { met, ..c }, left, rows) {
+        Err(Stop::Miss(met)) => met,
+        read => return read,
     };
     others(
         s,
@@ -343,11 +338,11 @@ fn others(s: &[u8], c: Cursor, k: Skip, left: usize, rows: &mut [u32]) -> Read
     requires skips { Skips trivia s.now c.at.0 c.met k }
     ensures { Reads (identifier_value or current_pc or expression_parens or interpolated_string_factor) s.now c left rows.old rows.new result }
 {
-    let f = identifier_value(s, c, k, rows);
-    let Err(Stop::Miss(met)) = f else {
-        return f;
+    let met = match identifier_value(s, c, k, rows) {
+        Err(Stop::Miss(met)) => met,
+        read => return read,
     };
-    let g = current_pc(
+    let met = match current_pc(
         s,
         Cursor { met, ..c },
         Skip {
@@ -355,11 +350,11 @@ fn others(s: &[u8], c: Cursor, k: Skip, left: usize, rows: &mut [u32]) -> Read
             ..k
         },
         rows,
-    );
-    let Err(Stop::Miss(met)) = g else {
-        return g;
+    ) {
+        Err(Stop::Miss(met)) => met,
+        read => return read,
     };
-    let h = expression_parens(
+    let met = match expression_parens(
         s,
         Cursor { met, ..c },
         Skip {
@@ -368,9 +363,9 @@ fn others(s: &[u8], c: Cursor, k: Skip, left: usize, rows: &mut [u32]) -> Read
         },
         left,
         rows,
-    );
-    let Err(Stop::Miss(met)) = h else {
-        return h;
+    ) {
+        Err(Stop::Miss(met)) => met,
+        read => return read,
     };
     interpolated_string_factor(
         s,
@@ -442,8 +437,7 @@ fn call_args(s: &[u8], c: Cursor, left: usize, rows: &mut [u32]) -> Read
     requires le_at { 1 ≤ c.at.0 }
     ensures { Reads call_args s.now c left rows.old rows.new result }
 {
-    let f = arguments(s, c, left, rows);
-    match f {
+    match arguments(s, c, left, rows) {
         Ok(d) => mark(s, d, b')', rows),
         Err(Stop::Miss(met)) => {
             let at = c.at;
@@ -475,8 +469,7 @@ pub fn arguments(s: &[u8], c: Cursor, left: usize, rows: &mut [u32]) -> Read
             left,
             rows,
         )?;
-        let g = mark(s, d, b',', rows);
-        match g {
+        match mark(s, d, b',', rows) {
             Ok(e) => {
                 at = e.at.0;
                 count = e.count.0;

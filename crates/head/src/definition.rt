@@ -134,8 +134,7 @@ fn identifier_arg_list(s: &[u8], c: Cursor, rows: &mut [u32]) -> Read
         )?;
         let end = d.at;
         let n = d.count;
-        let g = part::char(s, d, b',', rows);
-        match g {
+        match part::char(s, d, b',', rows) {
             Ok(e) => {
                 at = e.at.0;
                 count = e.count.0;

@@ -53,9 +53,9 @@ fn wide_size(s: &[u8], c: Cursor, k: Skip, rows: &mut [u32]) -> Read
     requires skips { Skips multiline_trivia s.now c.at.0 c.met k }
     ensures { Flat wide_size s.now c rows.old rows.new result }
 {
-    let f = mark::word(s, c, k, b".word", Kind::DataSize, 2, rows);
-    let Err(Stop::Miss(met)) = f else {
-        return f;
+    let met = match mark::word(s, c, k, b".word", Kind::DataSize, 2, rows) {
+        Err(Stop::Miss(met)) => met,
+        read => return read,
     };
     let j = Skip {
         met: met | k.met,
@@ -78,9 +78,9 @@ pub fn data_head(s: &[u8], c: Cursor, k: Skip, rows: &mut [u32]) -> Read
     requires skips { Skips multiline_trivia s.now c.at.0 c.met k }
     ensures { Flat data_size s.now c rows.old rows.new result }
 {
-    let f = mark::word(s, c, k, b".byte", Kind::DataSize, 1, rows);
-    let Err(Stop::Miss(met)) = f else {
-        return f;
+    let met = match mark::word(s, c, k, b".byte", Kind::DataSize, 1, rows) {
+        Err(Stop::Miss(met)) => met,
+        read => return read,
     };
     let j = Skip {
         met: met | k.met,
@@ -122,9 +122,9 @@ fn encoded(s: &[u8], c: Cursor, left: usize, rows: &mut [u32]) -> Read
     requires { Ready 0 s.now c }
     ensures { Reads encoded s.now c left rows.old rows.new result }
 {
-    let f = encoding_expression(s, c, left, rows);
-    let Err(Stop::Miss(met)) = f else {
-        return f;
+    let met = match encoding_expression(s, c, left, rows) {
+        Err(Stop::Miss(met)) => met,
+        read => return read,
     };
     part::expression(s, Cursor { met, ..c }, left, rows)
 }

@@ -77,8 +77,7 @@ fn specific_args(s: &[u8], c: Cursor, rows: &mut [u32]) -> Read
         )?;
         let end = d.at;
         let n = d.count;
-        let g = part::char(s, d, b',', rows);
-        match g {
+        match part::char(s, d, b',', rows) {
             Ok(e) => {
                 at = e.at.0;
                 count = e.count.0;
@@ -109,9 +108,9 @@ fn import_args(s: &[u8], c: Cursor, rows: &mut [u32]) -> Read
     requires { Ready 0 s.now c }
     ensures { Flat import_args s.now c rows.old rows.new result }
 {
-    let f = all(s, c, rows);
-    let Err(Stop::Miss(met)) = f else {
-        return f;
+    let met = match all(s, c, rows) {
+        Err(Stop::Miss(met)) => met,
+        read => return read,
     };
     specific_args(s, Cursor { met, ..c }, rows)
 }

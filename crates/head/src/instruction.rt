@@ -60,9 +60,9 @@ pub fn instruction(s: &[u8], c: Cursor, k: Skip, left: usize, rows: &mut [u32]) 
     requires skips { Skips multiline_trivia s.now c.at.0 c.met k }
     ensures { Reads instruction s.now c left rows.old rows.new result }
 {
-    let f = with_operand(s, c, k, left, rows);
-    let Err(Stop::Miss(met)) = f else {
-        return f;
+    let met = match with_operand(s, c, k, left, rows) {
+        Err(Stop::Miss(met)) => met,
+        read => return read,
     };
     implied(
         s,

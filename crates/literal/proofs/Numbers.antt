@@ -24,8 +24,7 @@ use Rattle.cursor.proofs.Places.{leaf_no}
 use Rattle.cursor.specs.Agree.{full, Reading, Leafs, Ready}
 use Rattle.cursor.specs.Text.{here, cursor, skip, Skips}
 use Rattle.cursor.specs.declared.Cursor.{Cursor}
-use Rattle.cursor.specs.declared.Read.{Read}
-use Rattle.cursor.specs.declared.Read.TheVariants.{Got, Miss, Deep}
+use Rattle.cursor.specs.Read.{Read}
 use Rattle.cursor.specs.declared.Skip.{Skip}
 use Rattle.lexis.specs.Behind.{Behind, Placed, Rowed}
 use Rattle.lexis.specs.Finds.{read_of, Finds}
@@ -33,7 +32,8 @@ use Rattle.lexis.proofs.Ends.{byte_at, end_in}
 use Rattle.lexis.proofs.Marks.{skips_again, behind_got, behind_found}
 use Rattle.literal.specs.Parts.{radix, numeral, decimals, value}
 use Rattle.literal.proofs.Solids.{value_solid}
-use Rattle.std.specs.Prelude.{Some, None}
+use Rattle.std.specs.Prelude.{Some, None, Ok, Err, IsErr}
+use Rattle.cursor.specs.declared.Stop.TheVariants.{Miss, Deep}
 
 -- Leaves ---------------------------------------------------------------------
 
@@ -134,11 +134,11 @@ module _ {s : List ℕ} {i : ℕ} {met : Bool} {k : Skip} (x : Skips trivia s i 
 -- Alternatives that are read -------------------------------------------------
 
 -- the cursor behind a row
-behind_row : {kind d : ℕ} {c : Cursor} {k : Skip} {high : ℕ} {t t' : List ℕ} {r : Read} (e : Cursor) → Rowed kind d c k high t t' r → r ≡ Got e
+behind_row : {kind d : ℕ} {c : Cursor} {k : Skip} {high : ℕ} {t t' : List ℕ} {r : Read} (e : Cursor) → Rowed kind d c k high t t' r → r ≡ Ok e
     → e ≡ cursor high (c.count.0 + 1) k.met
 behind_row {c = c} {k = k} {high = high} e a p = go (sym p ∙ a.answer)
   where
-    go : Got e ≡ Got (cursor high (c.count.0 + 1) k.met) → e ≡ cursor high (c.count.0 + 1) k.met
+    go : ◌≡◌ {A = Read} (Ok e) (Ok (cursor high (c.count.0 + 1) k.met)) → e ≡ cursor high (c.count.0 + 1) k.met
     go h = cc
 
 -- a byte that stands at a place is in the text
@@ -152,13 +152,13 @@ numeral_in h f = (end_in tt tt h f).within
 module _ {s : List ℕ} {c : Cursor} {k : Skip} (x : Skips trivia s c.at.0 c.met k) where
   -- behind the mark the digits may be read
   pub radix_ready : (mark : ℕ) {ty : ℕ} {d : Cursor} {t t₁ : List ℕ} {r₁ : Read} → Ready 4 s c → begins (mark ∷ []) (drop k.at.0 s) ≡ true
-      → Rowed number_typeᵏ ty c k (k.at.0 + 1) t t₁ r₁ → r₁ ≡ Got d → Ready 4 s d
+      → Rowed number_typeᵏ ty c k (k.at.0 + 1) t t₁ r₁ → r₁ ≡ Ok d → Ready 4 s d
   radix_ready mark {d = d} h e a p =
       subst (Ready 4 s) (sym (behind_row d a p))
       (record { small = h.small; within = byte_in mark s k.at.0 x.within e; few = omega (arith, h.few, x.on) })
 
   pub radix_leafs : (mark ty class : ℕ) → begins (mark ∷ []) (drop k.at.0 s) ≡ true → {d : Cursor} {j : Skip} {t t₁ t' : List ℕ} {r₁ r : Read}
-      → Rowed number_typeᵏ ty c k (k.at.0 + 1) t t₁ r₁ → r₁ ≡ Got d → Skips trivia s d.at.0 d.met j
+      → Rowed number_typeᵏ ty c k (k.at.0 + 1) t t₁ r₁ → r₁ ≡ Ok d → Skips trivia s d.at.0 d.met j
       → Behind number_textᵏ (always 0) (leaf (run1 (member class))) s d j t₁ t' r → Leafs (radix mark ty class) s c t t' r
   unfolding all_rules
   radix_leafs mark ty class e {d} a p y b =
@@ -169,7 +169,7 @@ module _ {s : List ℕ} {c : Cursor} {k : Skip} (x : Skips trivia s c.at.0 c.met
       }
 
   pub decimal_leafs : {p : Pos} → Finds numeral s k.at.0 (Some p) → {d : Cursor} {t t₁ t' : List ℕ} {r₁ r : Read} → c.at.0 ≤ length s
-      → Rowed number_typeᵏ 2 c (skip c.at.0 c.met) c.at.0 t t₁ r₁ → r₁ ≡ Got d → Rowed number_textᵏ 0 d k p.0 t₁ t' r
+      → Rowed number_typeᵏ 2 c (skip c.at.0 c.met) c.at.0 t t₁ r₁ → r₁ ≡ Ok d → Rowed number_textᵏ 0 d k p.0 t₁ t' r
       → Leafs decimals s c t t' r
   unfolding decimal
   decimal_leafs {p} f {d} {t} {t₁} {t'} {r₁} {r} h a e b =
@@ -188,12 +188,12 @@ module _ {s : List ℕ} {c : Cursor} {k : Skip} (x : Skips trivia s c.at.0 c.met
 
   -- behind the type the text's row may be pushed
   pub decimal_placed : {d : Cursor} {t t₁ : List ℕ} {r₁ : Read} → Ready 4 s c
-      → Rowed number_typeᵏ 2 c (skip c.at.0 c.met) c.at.0 t t₁ r₁ → r₁ ≡ Got d → Placed s d k
+      → Rowed number_typeᵏ 2 c (skip c.at.0 c.met) c.at.0 t t₁ r₁ → r₁ ≡ Ok d → Placed s d k
   decimal_placed {d} h a e =
       subst (λ (d : Cursor). Placed s d k) (sym (behind_row d a e))
       (record { ready = record { small = h.small; within = h.within; few = omega (arith, h.few) }; on = x.on; within = x.within })
 
-  pub decimal_none : Finds numeral s k.at.0 None → (t : List ℕ) → Leafs decimals s c t t (Miss k.met)
+  pub decimal_none : Finds numeral s k.at.0 None → (t : List ℕ) → Leafs decimals s c t t (Err (Miss k.met))
   decimal_none f t =
       record {
         reading = λ l lim. bare_no decimals s l lim c.at.0 c.met c.count.0 t x.open? k.met x.noted
@@ -221,7 +221,7 @@ counted true o g b k e = let h : b ≡ true = sym (ap met_of e) ∙ met_then o g
 
 -- so a look at the same trivia after a number that misses adds nothing
 radix_miss : {s : List ℕ} {i : ℕ} {met : Bool} {k : Skip} (x : Skips trivia s i met k) (mark ty class : ℕ) {l lim base : ℕ} {t t' : List ℕ} {r : Read}
-    → Reading (radix mark ty class) s l lim i met base t t' r → (y : Bool) → r ≡ Miss y → y ≡ y || x.open?
+    → Reading (radix mark ty class) s l lim i met base t t' r → (y : Bool) → r ≡ Err (Miss y) → y ≡ y || x.open?
 radix_miss {s} {i} {met} {k} x mark ty class {l} {lim} {base} a y p =
     let z = lost lim met base (scan (full s) (radix mark ty class) l (here s i)) y (sym p ∙ a.agrees.answer) in
     let row : Input → Summary Rows = λ q. thenˢ (takeˢ (taken (one (is mark)) q.left) q) λ v r. fits (under number_typeᵏ ty i q.at r.at v) r false 0 in
@@ -231,23 +231,23 @@ radix_miss {s} {i} {met} {k} x mark ty class {l} {lim} {base} a y p =
 
 -- no mark behind the trivia
 radix_none : {s : List ℕ} {i : ℕ} {met : Bool} {k : Skip} (x : Skips trivia s i met k) (mark ty class : ℕ) → begins (mark ∷ []) (drop k.at.0 s) ≡ false
-    → (l lim base : ℕ) (t : List ℕ) → Reading (radix mark ty class) s l lim i met base t t (Miss k.met)
+    → (l lim base : ℕ) (t : List ℕ) → Reading (radix mark ty class) s l lim i met base t t (Err (Miss k.met))
 radix_none {s} {i} {met} {k} x mark ty class e l lim base t =
     bare_no (radix mark ty class) s l lim i met base t x.open? k.met x.noted
     (radix_fails x l mark ty class (one_begins mark (drop k.at.0 s) ∙ ap (λ (b : Bool). given b 1) e))
 
 -- the other alternatives fail, and add nothing
 or_last : {m n : Parser} {s : List ℕ} {l lim i : ℕ} {met : Bool} {base : ℕ} {t t' : List ℕ} {r : Read} (b : Bool)
-    → Reading m s l lim i met base t t' r → ((y : Bool) → r ≡ Miss y → y ≡ y || b) → scan (full s) n l (here s i) ≡ fails b 0
+    → Reading m s l lim i met base t t' r → ((y : Bool) → r ≡ Err (Miss y) → y ≡ y || b) → scan (full s) n l (here s i) ≡ fails b 0
     → Reading (m or n) s l lim i met base t t' r
 or_last {m} {n} {s} {l} {lim} {i} {met} {base} {t} {t'} {r} b a h e = go r refl
   where
     go : (q : Read) → r ≡ q → Reading (m or n) s l lim i met base t t' r
-    go (Got d) p = or_first a n λ y z. got_miss d y (sym p ∙ z)
-    go (Miss y) p =
+    go (Ok d) p = or_first a n λ y z. got_miss d y (sym p ∙ z)
+    go (Err (Miss y)) p =
         subst (λ (q : Read). Reading (m or n) s l lim i met base t t' q) (sym p)
         (or_miss a n y p (bare_no n s l lim i y base t' b y (h y p) e))
-    go Deep p = or_first a n λ y z. miss_deep y (sym z ∙ p)
+    go (Err Deep) p = or_first a n λ y z. miss_deep y (sym z ∙ p)
 
 -- a second attempt may begin where the first one did
 pub ready_again : {n : ℕ} {s : List ℕ} {c : Cursor} (met : Bool) → Ready n s c → Ready n s (cursor c.at.0 c.count.0 met)
@@ -287,14 +287,14 @@ module _ {s : List ℕ} {c : Cursor} {k : Skip} (x : Skips trivia s c.at.0 c.met
 -- The row around both --------------------------------------------------------
 
 module _ {s : List ℕ} {c : Cursor} (h : c.at.0 ≤ length s) {t t₁ : List ℕ} {r₁ : Read} (a : Leafs value s c t t₁ r₁) where
-  pub number_out : ((d : Cursor) → r₁ ≡ Got d → ⊥) → Leafs number s c t t₁ r₁
+  pub number_out : IsErr r₁ → Leafs number s c t t₁ r₁
   unfolding number
   number_out e = record { reading = λ l lim. node_out numberᵏ (always 0) (skips_empty s c.at.0 c.met h) (a.reading l lim) e }
 
-  module _ (d : Cursor) (e : r₁ ≡ Got d) where
+  module _ (d : Cursor) (e : r₁ ≡ Ok d) where
     pub number_got : (y : ℕ) → y + c.count.0 ≡ d.count.0 + 1 → {t' : List ℕ}
         → t' ≡ pushed row_width t₁ d.count.0 (row_record numberᵏ y c.at.0 c.at.0 d.at.0 0)
-        → Leafs number s c t t' (Got (cursor d.at.0 (d.count.0 + 1) d.met))
+        → Leafs number s c t t' (Ok (cursor d.at.0 (d.count.0 + 1) d.met))
     unfolding number
     number_got y z p =
         record {

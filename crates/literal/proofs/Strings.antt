@@ -22,8 +22,7 @@ use Rattle.cursor.proofs.Lows.{low_first, low_node}
 use Rattle.cursor.specs.Agree.{Reading, Leafs, Ready}
 use Rattle.cursor.specs.Text.{cursor, skip, Skips}
 use Rattle.cursor.specs.declared.Cursor.{Cursor}
-use Rattle.cursor.specs.declared.Read.{Read}
-use Rattle.cursor.specs.declared.Read.TheVariants.{Got, Miss}
+use Rattle.cursor.specs.Read.{Read}
 use Rattle.cursor.specs.declared.Skip.{Skip}
 use Rattle.lexis.specs.Behind.{Behind, Placed}
 use Rattle.lexis.specs.Finds.{read_of}
@@ -31,6 +30,8 @@ use Rattle.lexis.proofs.Ends.{byte_at, byte_no}
 use Rattle.lexis.proofs.Solids.{char_solid}
 use Rattle.literal.specs.Parts.{item_of, string_of}
 use Rattle.literal.proofs.Numbers.{byte_in}
+use Rattle.cursor.specs.declared.Stop.TheVariants.{Miss}
+use Rattle.std.specs.Prelude.{Ok, Err, IsErr}
 
 -- Paths in braces ------------------------------------------------------------
 
@@ -47,12 +48,11 @@ inner_slim = tt
 
 module _ {s : List ℕ} {c : Cursor} where
   -- no brace
-  pub interpolation_no : begins (123 ∷ []) (drop c.at.0 s) ≡ false → (t : List ℕ) → Leafs interpolation s c t t (Miss c.met)
+  pub interpolation_no : begins (123 ∷ []) (drop c.at.0 s) ≡ false → (t : List ℕ) → Leafs interpolation s c t t (Err (Miss c.met))
   unfolding interpolation read_of
   interpolation_no e t =
       record {
-        reading = λ l lim. seq_out ((byte_no 123 s c.at.0 e).reading l lim c.met c.count.0 t) (inner ▸ byte "}")
-            λ d z. got_miss d c.met (sym z);
+        reading = λ l lim. seq_out ((byte_no 123 s c.at.0 e).reading l lim c.met c.count.0 t) (inner ▸ byte "}") refl;
       }
 
   module _ (h : Ready 4 s c) (e : begins (123 ∷ []) (drop c.at.0 s) ≡ true) where
@@ -77,20 +77,20 @@ module _ {s : List ℕ} {c : Cursor} where
           }
 
       -- no path
-      pub interpolation_out : ((d : Cursor) → r₁ ≡ Got d → ⊥) → Leafs interpolation s c t t₁ r₁
+      pub interpolation_out : IsErr r₁ → Leafs interpolation s c t t₁ r₁
       interpolation_out z = braced λ l lim. seq_out (inside l lim) (byte "}") z
 
-      module _ (d : Cursor) (p : r₁ ≡ Got d) where
+      module _ (d : Cursor) (p : r₁ ≡ Ok d) where
         pub inner_in : d.at.0 ≤ length s
         inner_in = (moved inner inner_quiet inner_slim d (byte_in 123 s c.at.0 h.within e) (inside 0 0) p).within
 
         -- no closing brace, or one
-        pub interpolation_open : begins (125 ∷ []) (drop d.at.0 s) ≡ false → Leafs interpolation s c t t₁ (Miss d.met)
+        pub interpolation_open : begins (125 ∷ []) (drop d.at.0 s) ≡ false → Leafs interpolation s c t t₁ (Err (Miss d.met))
         unfolding read_of
         interpolation_open z =
             braced λ l lim. seq_got (inside l lim) (byte "}") inner_quiet d p ((byte_no 125 s d.at.0 z).reading l lim d.met d.count.0 t₁)
 
-        pub interpolation_got : begins (125 ∷ []) (drop d.at.0 s) ≡ true → Leafs interpolation s c t t₁ (Got (cursor (d.at.0 + 1) d.count.0 d.met))
+        pub interpolation_got : begins (125 ∷ []) (drop d.at.0 s) ≡ true → Leafs interpolation s c t t₁ (Ok (cursor (d.at.0 + 1) d.count.0 d.met))
         unfolding read_of
         interpolation_got z =
             braced λ l lim. seq_got (inside l lim) (byte "}") inner_quiet d p
@@ -105,16 +105,16 @@ module _ {s : List ℕ} {c : Cursor} {t t₁ : List ℕ} {r₁ : Read}
   piece_leafs = a.leafs empty (skips_empty s c.at.0 c.met h)
 
   -- a piece
-  pub item_first : (b : Bool) → ((y : Bool) → r₁ ≡ Miss y → ⊥) → Leafs (item_of b) s c t t₁ r₁
+  pub item_first : (b : Bool) → ((y : Bool) → r₁ ≡ Err (Miss y) → ⊥) → Leafs (item_of b) s c t t₁ r₁
   item_first true z = record { reading = λ l lim. or_first (piece_leafs.reading l lim) interpolation z }
   item_first false z = piece_leafs
 
   -- none, and the string is not interpolated, or it is
-  pub item_plain : (b : Bool) → b ≡ false → (y : Bool) → r₁ ≡ Miss y → Leafs (item_of b) s c t t₁ (Miss y)
+  pub item_plain : (b : Bool) → b ≡ false → (y : Bool) → r₁ ≡ Err (Miss y) → Leafs (item_of b) s c t t₁ (Err (Miss y))
   item_plain b e y p =
-      subst (λ (b : Bool). Leafs (item_of b) s c t t₁ (Miss y)) (sym e) (subst (λ (r : Read). Leafs piece s c t t₁ r) p piece_leafs)
+      subst (λ (b : Bool). Leafs (item_of b) s c t t₁ (Err (Miss y))) (sym e) (subst (λ (r : Read). Leafs piece s c t t₁ r) p piece_leafs)
 
-  pub item_second : (b : Bool) → b ≡ true → (y : Bool) → r₁ ≡ Miss y → {t' : List ℕ} {r : Read}
+  pub item_second : (b : Bool) → b ≡ true → (y : Bool) → r₁ ≡ Err (Miss y) → {t' : List ℕ} {r : Read}
       → Leafs interpolation s (cursor c.at.0 c.count.0 y) t₁ t' r → Leafs (item_of b) s c t t' r
   item_second b e y p {t'} {r} g =
       subst (λ (b : Bool). Leafs (item_of b) s c t t' r) (sym e)
@@ -163,10 +163,10 @@ module _ (b : Bool) {s : List ℕ} {c : Cursor} {k : Skip} (x : Skips trivia s c
   quote l lim = (a.leafs trivia x).reading l lim
 
   -- no opening quote
-  pub string_out : ((d : Cursor) → r₁ ≡ Got d → ⊥) → Leafs (string_of b) s c t t₁ r₁
+  pub string_out : IsErr r₁ → Leafs (string_of b) s c t t₁ r₁
   string_out z = string_is b (record { reading = λ l lim. over_out stringᵏ 0 (rest b) (quote l lim) z })
 
-  module _ (d : Cursor) (e : r₁ ≡ Got d) where
+  module _ (d : Cursor) (e : r₁ ≡ Ok d) where
     quote_step : c.at.0 ≤ length s → Stepped s c.at.0 c.count.0 d
     quote_step h = stepped (char_solid false 34) d h (quote 0 0) e
 
@@ -175,11 +175,11 @@ module _ (b : Bool) {s : List ℕ} {c : Cursor} {k : Skip} (x : Skips trivia s c
     quote_ready h = let y = quote_step h.within in record { small = h.small; within = y.within; few = omega (arith, h.few, y.rows) }
 
     module _ {t₂ : List ℕ} {r₂ : Read} (g : Leafs (many0 (item_of b)) s d t₁ t₂ r₂) where
-      pub string_no : ((n : Cursor) → r₂ ≡ Got n → ⊥) → Leafs (string_of b) s c t t₂ r₂
+      pub string_no : IsErr r₂ → Leafs (string_of b) s c t t₂ r₂
       string_no z =
           string_is b (record { reading = λ l lim. over_no stringᵏ 0 (rest b) (quote l lim) char_quiet d e (seq_out (g.reading l lim) (byte "\"") z) z })
 
-      module _ (n : Cursor) (p : r₂ ≡ Got n) where
+      module _ (n : Cursor) (p : r₂ ≡ Ok n) where
         pub string_inside : Ready 4 s c → Inside s c.count.0 n
         string_inside h =
             let y = quote_step h.within in
@@ -191,18 +191,17 @@ module _ (b : Bool) {s : List ℕ} {c : Cursor} {k : Skip} (x : Skips trivia s c
             }
 
         -- no closing quote, or one
-        pub string_open : begins (34 ∷ []) (drop n.at.0 s) ≡ false → Leafs (string_of b) s c t t₂ (Miss n.met)
+        pub string_open : begins (34 ∷ []) (drop n.at.0 s) ≡ false → Leafs (string_of b) s c t t₂ (Err (Miss n.met))
         unfolding read_of
         string_open z =
             string_is b (record {
               reading = λ l lim. over_no stringᵏ 0 (rest b) (quote l lim) char_quiet d e
-                  (seq_got (g.reading l lim) (byte "\"") (item_repeats b).quieted n p ((byte_no 34 s n.at.0 z).reading l lim n.met n.count.0 t₂))
-                  λ q w. got_miss q n.met (sym w);
+                  (seq_got (g.reading l lim) (byte "\"") (item_repeats b).quieted n p ((byte_no 34 s n.at.0 z).reading l lim n.met n.count.0 t₂)) refl;
             })
 
         pub string_got : begins (34 ∷ []) (drop n.at.0 s) ≡ true → (y : ℕ) → y + c.count.0 ≡ n.count.0 + 1 → {t' : List ℕ}
             → t' ≡ pushed row_width t₂ n.count.0 (row_record stringᵏ y c.at.0 k.at.0 (n.at.0 + 1) 0)
-            → Leafs (string_of b) s c t t' (Got (cursor (n.at.0 + 1) (n.count.0 + 1) n.met))
+            → Leafs (string_of b) s c t t' (Ok (cursor (n.at.0 + 1) (n.count.0 + 1) n.met))
         unfolding read_of
         string_got z y w q =
             string_is b (record {

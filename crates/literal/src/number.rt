@@ -5,10 +5,11 @@ ghost use Rattle.reading.specs.Rules.{trivia, number};
 ghost use Rattle.cursor.specs.Agree.{Ready, Leafs};
 ghost use Rattle.cursor.specs.Text.{Skips};
 ghost use Rattle.lexis.specs.Finds.{Finds};
+ghost use Rattle.trivia.specs.Class.{bit_of};
 ghost use Rattle.literal.specs.Parts.{radix, numeral, decimals, value};
 
 use cursor::{Cursor, Read, Skip, Stop};
-use lexis::{Found, mark};
+use lexis::mark;
 use table::{Kind, Pos, RowIndex};
 use trivia::class::Class;
 
@@ -16,8 +17,8 @@ use trivia::class::Class;
 fn radix(s: &[u8], c: Cursor, k: Skip, mark: u8, ty: usize, class: Class, rows: &mut [u32]) -> Read
     requires ready { Ready 4 s.now c }
     requires skips { Skips trivia s.now c.at.0 c.met k }
-    requires s_value { (begins (mark ∷ []) (drop k.at.0 s.now) ≡ true) × (class < 8) × (ty < 2 ^ 32) }
-    ensures { Leafs (radix mark ty class) s.now c rows.old rows.new result }
+    requires s_value { (begins (mark ∷ []) (drop k.at.0 s.now) ≡ true) × (ty < 2 ^ 32) }
+    ensures { Leafs (radix mark ty (bit_of class)) s.now c rows.old rows.new result }
 {
     let d = mark::row(c, k, Pos(k.at.0 + 1), Kind::NumberType, ty, rows)?;
     let j = trivia::trivia(s, d.at, d.met);
@@ -25,22 +26,22 @@ fn radix(s: &[u8], c: Cursor, k: Skip, mark: u8, ty: usize, class: Class, rows: 
 }
 
 // Where digits, `true` or `false` end. No end of a word is asked for.
-fn numeral(s: &[u8], at: Pos) -> Found
+fn numeral(s: &[u8], at: Pos) -> Option<Pos>
     requires { at.0 ≤ length s.now }
     ensures { Finds numeral s.now at.0 result }
 {
     let i = at.0;
     let e = trivia::digits_end(s, at);
     if i < e.0 {
-        return Found::At(e);
+        return Some(e);
     }
     if word::begins(s, at, b"true") {
-        return Found::At(Pos(i + 4));
+        return Some(Pos(i + 4));
     }
     if word::begins(s, at, b"false") {
-        return Found::At(Pos(i + 5));
+        return Some(Pos(i + 5));
     }
-    Found::No
+    None
 }
 
 // An empty type where the number's reading began, and the text.
@@ -49,22 +50,14 @@ fn decimal(s: &[u8], c: Cursor, k: Skip, rows: &mut [u32]) -> Read
     requires skips { Skips trivia s.now c.at.0 c.met k }
     ensures { Leafs decimals s.now c rows.old rows.new result }
 {
-    let f = numeral(s, k.at);
-    let Found::At(high) = f else {
+    let Some(high) = numeral(s, k.at) else {
         return Err(Stop::Miss(k.met));
     };
-    let start = c.at;
-    let d = mark::row(
-        c,
-        Skip {
-            at: start,
-            met: c.met,
-        },
-        start,
-        Kind::NumberType,
-        2,
-        rows,
-    )?;
+    let start = Skip {
+        at: c.at,
+        met: c.met,
+    };
+    let d = mark::row(c, start, c.at, Kind::NumberType, 2, rows)?;
     mark::row(d, k, high, Kind::NumberText, 0, rows)
 }
 
@@ -91,22 +84,19 @@ pub fn number(s: &[u8], c: Cursor, k: Skip, rows: &mut [u32]) -> Read
     ensures { Leafs number s.now c rows.old rows.new result }
 {
     let d = value(s, c, k, rows)?;
-    let at = c.at;
     let n = d.count.0;
-    let high = d.at;
     table::push_row(
         rows,
-        RowIndex(n),
+        d.count,
         Kind::Number,
         n + 1 - c.count.0,
-        at,
-        at,
-        high,
+        c.at,
+        c.at,
+        d.at,
         0,
     );
     Ok(Cursor {
-        at: high,
         count: RowIndex(n + 1),
-        met: d.met,
+        ..d
     })
 }

@@ -37,18 +37,13 @@ fn item(s: &[u8], c: Cursor, interpolated: bool, rows: &mut [u32]) -> Read
     requires { Ready 4 s.now c }
     ensures { Leafs (item_of interpolated) s.now c rows.old rows.new result }
 {
-    let at = c.at;
-    let f = mark::run(
-        s,
-        c,
-        Skip { at, met: c.met },
-        Class::EndsPiece,
-        false,
-        Kind::Piece,
-        rows,
-    );
-    let Err(Stop::Miss(m)) = f else {
-        return f;
+    let k = Skip {
+        at: c.at,
+        met: c.met,
+    };
+    let m = match mark::run(s, c, k, Class::EndsPiece, false, Kind::Piece, rows) {
+        Err(Stop::Miss(m)) => m,
+        read => return read,
     };
     if !interpolated {
         return Err(Stop::Miss(m));
@@ -63,13 +58,10 @@ fn items(s: &[u8], c: Cursor, interpolated: bool, rows: &mut [u32]) -> Read
 {
     let mut d = c;
     loop {
-        let f = item(s, d, interpolated, rows);
-        match f {
+        match item(s, d, interpolated, rows) {
             Ok(e) => d = e,
             Err(Stop::Miss(m)) => {
-                let at = d.at;
-                let count = d.count;
-                return Ok(Cursor { at, count, met: m });
+                return Ok(Cursor { met: m, ..d });
             }
             Err(Stop::Deep) => return Err(Stop::Deep),
         }

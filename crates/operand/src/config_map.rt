@@ -40,8 +40,7 @@ fn kvps(s: &[u8], c: Cursor, left: usize, rows: &mut [u32]) -> Read
 {
     let mut d = c;
     loop {
-        let f = kvp(s, d, left, rows);
-        match f {
+        match kvp(s, d, left, rows) {
             Ok(e) => d = e,
             Err(Stop::Miss(met)) => {
                 let at = d.at;
@@ -129,9 +128,9 @@ fn config_value(s: &[u8], c: Cursor, left: usize, rows: &mut [u32]) -> Read
     requires le_at { 1 ≤ c.at.0 }
     ensures { Reads config_value s.now c left rows.old rows.new result }
 {
-    let f = config_map(s, c, left, rows);
-    let Err(Stop::Miss(met)) = f else {
-        return f;
+    let met = match config_map(s, c, left, rows) {
+        Err(Stop::Miss(met)) => met,
+        read => return read,
     };
     expression_value(s, Cursor { met, ..c }, left, rows)
 }

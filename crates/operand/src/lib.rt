@@ -57,9 +57,9 @@ pub fn operand(s: &[u8], c: Cursor, k: Skip, left: usize, rows: &mut [u32]) -> R
     ensures { Reads operand s.now c left rows.old rows.new result }
 {
     let low = k.at;
-    let f = am_imm(s, c, k, left, rows);
-    let Err(Stop::Miss(met)) = f else {
-        return f;
+    let met = match am_imm(s, c, k, left, rows) {
+        Err(Stop::Miss(met)) => met,
+        read => return read,
     };
     let d = Cursor { met, ..c };
     let j = Skip { met, ..k };
@@ -107,8 +107,7 @@ fn in_parens(s: &[u8], c: Cursor, k: Skip, left: usize, rows: &mut [u32]) -> Rea
 {
     let low = k.at;
     let d = opened(s, c, k, left, rows)?;
-    let g = closing(s, d, false, rows);
-    match g {
+    match closing(s, d, false, rows) {
         Ok(e) => {
             let x = lexis::operator::optional_suffix(s, e, rows)?;
             let z = finish(c, low, x, Kind::Operand, OUTER_INDIRECT, rows);

@@ -20,9 +20,9 @@ fn map(s: &[u8], c: Cursor, st: State, left: usize, rows: &mut [u32], errors: &m
 {
     let at = c.at;
     let f = config_map::config_map(s, Cursor { met: false, ..c }, left, rows);
-    let r = lifted(s, st, f, errors);
-    let Err(Stop::Miss(x)) = r else {
-        return r;
+    let x = match lifted(s, st, f, errors) {
+        Err(Stop::Miss(x)) => x,
+        done => return done,
     };
     let y = state::report(x, 4, at, at, errors);
     Ok((Cursor { met: false, ..c }, y))
@@ -54,9 +54,9 @@ fn values(s: &[u8], c: Cursor, st: State, left: usize, rows: &mut [u32], errors:
 {
     let at = c.at;
     let f = directive::expression_arg_list(s, Cursor { met: false, ..c }, left, rows);
-    let r = lifted(s, st, f, errors);
-    let Err(Stop::Miss(x)) = r else {
-        return r;
+    let x = match lifted(s, st, f, errors) {
+        Err(Stop::Miss(x)) => x,
+        done => return done,
     };
     let y = state::report(x, 3, at, at, errors);
     Ok((Cursor { met: false, ..c }, y))

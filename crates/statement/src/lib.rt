@@ -47,9 +47,9 @@ fn token(
     requires { Fit 0 s.now c st }
     ensures { Does (statement or error) s.now c st left (tables rows.old errors.old requests.old) (tables rows.new errors.new requests.new) result }
 {
-    let r = stmt::statement(s, c, st, left, rows, errors, requests);
-    let Err(Stop::Miss(x)) = r else {
-        return r;
+    let x = match stmt::statement(s, c, st, left, rows, errors, requests) {
+        Err(Stop::Miss(x)) => x,
+        done => return done,
     };
     text::error(s, c, x, rows, errors)
 }
@@ -168,8 +168,7 @@ pub fn source_file(
     let mut state = st;
     let mut here = line::start(s);
     loop {
-        let f = token_behind(s, Pos(at), count, state, left, rows, errors, requests);
-        match f {
+        match token_behind(s, Pos(at), count, state, left, rows, errors, requests) {
             Ok((d, x)) => {
                 let n = count + d.count.0;
                 here = line::number(s, rows, count, n, here);

@@ -187,21 +187,21 @@ pub fn instructions(
     requires skips { Skips multiline_trivia s.now c.at.0 false k }
     ensures { Tells (instruction or variable_definition or const_definition or pc_definition or config_definition) s.now c st left rows.old rows.new errors.old errors.new result }
 {
-    let r = instruct(s, c, k, st, left, rows, errors);
-    let Err(Stop::Miss(st)) = r else {
-        return r;
+    let st = match instruct(s, c, k, st, left, rows, errors) {
+        Err(Stop::Miss(st)) => st,
+        done => return done,
     };
-    let r = variable(s, c, k, st, left, rows, errors);
-    let Err(Stop::Miss(st)) = r else {
-        return r;
+    let st = match variable(s, c, k, st, left, rows, errors) {
+        Err(Stop::Miss(st)) => st,
+        done => return done,
     };
-    let r = constant(s, c, k, st, left, rows, errors);
-    let Err(Stop::Miss(st)) = r else {
-        return r;
+    let st = match constant(s, c, k, st, left, rows, errors) {
+        Err(Stop::Miss(st)) => st,
+        done => return done,
     };
-    let r = counter(s, c, k, st, left, rows, errors);
-    let Err(Stop::Miss(st)) = r else {
-        return r;
+    let st = match counter(s, c, k, st, left, rows, errors) {
+        Err(Stop::Miss(st)) => st,
+        done => return done,
     };
     expected::definition(s, c, k, st, left, rows, errors)
 }
@@ -219,9 +219,9 @@ pub fn calls(
     requires skips { Skips multiline_trivia s.now c.at.0 false k }
     ensures { Tells (macro_invocation or data') s.now c st left rows.old rows.new errors.old errors.new result }
 {
-    let r = invoke(s, c, k, st, left, rows, errors);
-    let Err(Stop::Miss(st)) = r else {
-        return r;
+    let st = match invoke(s, c, k, st, left, rows, errors) {
+        Err(Stop::Miss(st)) => st,
+        done => return done,
     };
     expected::data(s, c, k, st, left, rows, errors)
 }
@@ -239,9 +239,9 @@ pub fn texts(
     requires skips { Skips multiline_trivia s.now c.at.0 false k }
     ensures { Tells (text or file) s.now c st left rows.old rows.new errors.old errors.new result }
 {
-    let r = text(s, c, k, st, left, rows, errors);
-    let Err(Stop::Miss(st)) = r else {
-        return r;
+    let st = match text(s, c, k, st, left, rows, errors) {
+        Err(Stop::Miss(st)) => st,
+        done => return done,
     };
     file(s, c, k, st, rows, errors)
 }
@@ -259,9 +259,9 @@ pub fn checks(
     requires skips { Skips multiline_trivia s.now c.at.0 false k }
     ensures { Tells (assert or trace) s.now c st left rows.old rows.new errors.old errors.new result }
 {
-    let r = assert(s, c, k, st, left, rows, errors);
-    let Err(Stop::Miss(st)) = r else {
-        return r;
+    let st = match assert(s, c, k, st, left, rows, errors) {
+        Err(Stop::Miss(st)) => st,
+        done => return done,
     };
     trace(s, c, k, st, left, rows, errors)
 }

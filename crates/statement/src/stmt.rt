@@ -26,9 +26,9 @@ fn item(
     requires le_at { 1 ≤ c.at.0 }
     ensures { Does block_item s.now c st left (tables rows.old errors.old requests.old) (tables rows.new errors.new requests.new) result }
 {
-    let r = statement(s, c, st, left, rows, errors, requests);
-    let Err(Stop::Miss(x)) = r else {
-        return r;
+    let x = match statement(s, c, st, left, rows, errors, requests) {
+        Err(Stop::Miss(x)) => x,
+        done => return done,
     };
     crate::text::error_in_block(s, c, x, rows, errors)
 }
@@ -51,7 +51,7 @@ fn items(
     let mut count = c.count.0;
     let mut state = st;
     loop {
-        let f = item(
+        match item(
             s,
             Cursor {
                 at: table::Pos(at),
@@ -63,8 +63,7 @@ fn items(
             rows,
             errors,
             requests,
-        );
-        match f {
+        ) {
             Ok((d, x)) => {
                 at = d.at.0;
                 count = d.count.0;
@@ -167,9 +166,9 @@ fn maybe(
     requires { Fit 0 s.now c st }
     ensures { Does (opt block) s.now c st left (tables rows.old errors.old requests.old) (tables rows.new errors.new requests.new) result }
 {
-    let f = block(s, c, st, left, rows, errors, requests);
-    let Err(Stop::Miss(x)) = f else {
-        return f;
+    let x = match block(s, c, st, left, rows, errors, requests) {
+        Err(Stop::Miss(x)) => x,
+        done => return done,
     };
     Ok((Cursor { met: false, ..c }, x))
 }
@@ -207,9 +206,9 @@ fn branches(
     ensures { Does (block ▸ opt (directive "else" ▸ block)) s.now c st left (tables rows.old errors.old requests.old) (tables rows.new errors.new requests.new) result }
 {
     let (d, x) = block(s, c, st, left, rows, errors, requests)?;
-    let g = other(s, d, x, left, rows, errors, requests);
-    let Err(Stop::Miss(y)) = g else {
-        return g;
+    let y = match other(s, d, x, left, rows, errors, requests) {
+        Err(Stop::Miss(y)) => y,
+        done => return done,
     };
     Ok((Cursor { met: false, ..d }, y))
 }
@@ -407,15 +406,15 @@ fn fourth(
     requires skips { Skips multiline_trivia s.now c.at.0 false k }
     ensures { Does from_import s.now c st left (tables rows.old errors.old requests.old) (tables rows.new errors.new requests.new) result }
 {
-    let r = import(s, c, k, st, left, rows, errors, requests);
-    let Err(Stop::Miss(st)) = r else {
-        return r;
+    let st = match import(s, c, k, st, left, rows, errors, requests) {
+        Err(Stop::Miss(st)) => st,
+        done => return done,
     };
-    let r = crate::quiet::texts(s, c, k, st, left, rows, errors);
-    let Err(Stop::Miss(st)) = r else {
-        return r;
+    let st = match crate::quiet::texts(s, c, k, st, left, rows, errors) {
+        Err(Stop::Miss(st)) => st,
+        done => return done,
     };
-    let r = directive(
+    let st = match directive(
         s,
         c,
         k,
@@ -428,9 +427,9 @@ fn fourth(
         rows,
         errors,
         requests,
-    );
-    let Err(Stop::Miss(st)) = r else {
-        return r;
+    ) {
+        Err(Stop::Miss(st)) => st,
+        done => return done,
     };
     crate::quiet::checks(s, c, k, st, left, rows, errors)
 }
@@ -451,7 +450,7 @@ fn third(
     requires skips { Skips multiline_trivia s.now c.at.0 false k }
     ensures { Does from_loop s.now c st left (tables rows.old errors.old requests.old) (tables rows.new errors.new requests.new) result }
 {
-    let r = directive(
+    let st = match directive(
         s,
         c,
         k,
@@ -464,11 +463,11 @@ fn third(
         rows,
         errors,
         requests,
-    );
-    let Err(Stop::Miss(st)) = r else {
-        return r;
+    ) {
+        Err(Stop::Miss(st)) => st,
+        done => return done,
     };
-    let r = directive(
+    let st = match directive(
         s,
         c,
         k,
@@ -481,13 +480,13 @@ fn third(
         rows,
         errors,
         requests,
-    );
-    let Err(Stop::Miss(st)) = r else {
-        return r;
+    ) {
+        Err(Stop::Miss(st)) => st,
+        done => return done,
     };
-    let r = crate::quiet::align(s, c, k, st, left, rows, errors);
-    let Err(Stop::Miss(st)) = r else {
-        return r;
+    let st = match crate::quiet::align(s, c, k, st, left, rows, errors) {
+        Err(Stop::Miss(st)) => st,
+        done => return done,
     };
     fourth(s, c, k, st, left, rows, errors, requests)
 }
@@ -508,15 +507,15 @@ fn second(
     requires skips { Skips multiline_trivia s.now c.at.0 false k }
     ensures { Does from_macro s.now c st left (tables rows.old errors.old requests.old) (tables rows.new errors.new requests.new) result }
 {
-    let r = macro_of(s, c, k, st, left, rows, errors, requests);
-    let Err(Stop::Miss(st)) = r else {
-        return r;
+    let st = match macro_of(s, c, k, st, left, rows, errors, requests) {
+        Err(Stop::Miss(st)) => st,
+        done => return done,
     };
-    let r = crate::quiet::calls(s, c, k, st, left, rows, errors);
-    let Err(Stop::Miss(st)) = r else {
-        return r;
+    let st = match crate::quiet::calls(s, c, k, st, left, rows, errors) {
+        Err(Stop::Miss(st)) => st,
+        done => return done,
     };
-    let r = directive(
+    let st = match directive(
         s,
         c,
         k,
@@ -529,9 +528,9 @@ fn second(
         rows,
         errors,
         requests,
-    );
-    let Err(Stop::Miss(st)) = r else {
-        return r;
+    ) {
+        Err(Stop::Miss(st)) => st,
+        done => return done,
     };
     third(s, c, k, st, left, rows, errors, requests)
 }
@@ -552,17 +551,17 @@ pub fn statement(
 {
     let at = c.at;
     let k = trivia::multiline_trivia(s, at, false);
-    let r = braces(s, c, k, st, left, rows, errors, requests);
-    let Err(Stop::Miss(st)) = r else {
-        return r;
+    let st = match braces(s, c, k, st, left, rows, errors, requests) {
+        Err(Stop::Miss(st)) => st,
+        done => return done,
     };
-    let r = label(s, c, k, st, left, rows, errors, requests);
-    let Err(Stop::Miss(st)) = r else {
-        return r;
+    let st = match label(s, c, k, st, left, rows, errors, requests) {
+        Err(Stop::Miss(st)) => st,
+        done => return done,
     };
-    let r = crate::quiet::instructions(s, c, k, st, left, rows, errors);
-    let Err(Stop::Miss(st)) = r else {
-        return r;
+    let st = match crate::quiet::instructions(s, c, k, st, left, rows, errors) {
+        Err(Stop::Miss(st)) => st,
+        done => return done,
     };
     second(s, c, k, st, left, rows, errors, requests)
 }
