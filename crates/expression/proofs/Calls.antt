@@ -1,5 +1,5 @@
 -- Calls, arguments and parentheses. Behind a bracket the rule `expr` is `expression`.
-use mathlib.Core.Path.{◌≡◌, refl, sym, subst, ◌∙◌}
+use mathlib.Core.Path.{◌≡◌, refl, sym, subst, ◌∙◌, ap}
 use mathlib.Core.Bool.{Bool}
 use mathlib.Core.List.{List}
 use Prim.Native.Nat.{ℕ, ◌+◌, ◌-◌, ◌≤◌}
@@ -13,14 +13,15 @@ use Rattle.cursor.specs.Text.{cursor, Skips}
 use Rattle.cursor.specs.Agree.{Reads, Leafs}
 use Rattle.cursor.specs.declared.Cursor.{Cursor}
 use Rattle.cursor.specs.declared.Skip.{Skip}
-use Rattle.cursor.specs.declared.Read.{Read}
-use Rattle.cursor.specs.declared.Read.TheVariants.{Got, Miss, Deep}
-use Rattle.cursor.proofs.Agree.{got_miss, got_deep, miss_deep}
+use Rattle.cursor.specs.Read.{Read}
+use Rattle.cursor.proofs.Agree.{got_miss, miss_deep}
 use Rattle.cursor.proofs.Laws.{rule_is, reading_is, reading_to, reads_leaf, opt_miss, opt_first, argument_out, argument_got}
 use Rattle.expression.specs.Mark.{mark}
 use Rattle.expression.specs.Around.{Around}
 use Rattle.expression.proofs.Facts.{name_solid, opt_list_quiet, bracket_quiet, call_quiet}
 use Rattle.expression.proofs.Steps.{then_out, then_got, whole_out, whole_got, inside_out, inside_none, inside_on}
+use Rattle.cursor.specs.declared.Stop.TheVariants.{Miss, Deep}
+use Rattle.std.specs.Prelude.{Ok, Err, IsErr, is_err}
 
 rule_reads : {s : List ℕ} {c : Cursor} {left : ℕ} {t t₁ : List ℕ} {r₁ : Read} → 1 ≤ c.at.0 → c.at.0 ≤ length s
     → Reads expression s c left t t₁ r₁ → Reads (rule expr) s c left t t₁ r₁
@@ -30,30 +31,30 @@ rule_reads {s} {c} h k a = record { reading = λ l. reading_is (rule_is expr tt 
 
 -- an expression and `)`
 module _ {s : List ℕ} {c : Cursor} (h : 1 ≤ c.at.0) (k : c.at.0 ≤ length s) {left : ℕ} {t t₁ : List ℕ} {r₁ : Read} (a : Reads expression s c left t t₁ r₁) where
-  pub closed_out : ((d : Cursor) → r₁ ≡ Got d → ⊥) → Reads closed_expression s c left t t₁ r₁
+  pub closed_out : IsErr r₁ → Reads closed_expression s c left t t₁ r₁
   unfolding closed_expression
   closed_out g = then_out (rule_reads h k a) (mark 41) g
 
-  pub closed_got : (d : Cursor) → r₁ ≡ Got d → {t₂ : List ℕ} {r₂ : Read} → Leafs (mark 41) s d t₁ t₂ r₂ → Reads closed_expression s c left t t₂ r₂
+  pub closed_got : (d : Cursor) → r₁ ≡ Ok d → {t₂ : List ℕ} {r₂ : Read} → Leafs (mark 41) s d t₁ t₂ r₂ → Reads closed_expression s c left t t₂ r₂
   unfolding closed_expression
   closed_got d e b = then_got (rule_reads h k a) (mark 41) tt d e (reads_leaf left b)
 
 module _ {s : List ℕ} (c : Cursor) (h : c.at.0 ≤ length s) (left : ℕ) {t t₁ : List ℕ} {r₁ : Read} (a : Leafs (mark 40) s c t t₁ r₁) where
-  pub parens_out : ((d : Cursor) → r₁ ≡ Got d → ⊥) → Reads expression_parens s c left t t₁ r₁
+  pub parens_out : IsErr r₁ → Reads expression_parens s c left t t₁ r₁
   unfolding expression_parens
   parens_out g = whole_out parensᵏ 0 c h (inside_out closed_expression left a g) g
 
-  module _ (d : Cursor) (e : r₁ ≡ Got d) where
-    pub parens_none : left ≡ 0 → Reads expression_parens s c left t t₁ Deep
+  module _ (d : Cursor) (e : r₁ ≡ Ok d) where
+    pub parens_none : left ≡ 0 → Reads expression_parens s c left t t₁ (Err Deep)
     unfolding expression_parens
-    parens_none z = whole_out parensᵏ 0 c h (inside_none closed_expression left a d e z) λ d q. got_deep d (sym q)
+    parens_none z = whole_out parensᵏ 0 c h (inside_none closed_expression left a d e z) refl
 
     module _ (z : left ≡ 0 → ⊥) {t₂ : List ℕ} {r₂ : Read} (b : Reads closed_expression s d (left - 1) t₁ t₂ r₂) where
-      pub parens_miss : ((d : Cursor) → r₂ ≡ Got d → ⊥) → Reads expression_parens s c left t t₂ r₂
+      pub parens_miss : IsErr r₂ → Reads expression_parens s c left t t₂ r₂
       unfolding expression_parens
       parens_miss g = whole_out parensᵏ 0 c h (inside_on closed_expression left a d e z b) g
 
-      pub parens_got : (f : Cursor) → r₂ ≡ Got f → c.count.0 ≤ f.count.0 → {t' : List ℕ} {r : Read}
+      pub parens_got : (f : Cursor) → r₂ ≡ Ok f → c.count.0 ≤ f.count.0 → {t' : List ℕ} {r : Read}
           → Around parensᵏ 0 c c.at.0 f t₂ t' r → Reads expression_parens s c left t t' r
       unfolding expression_parens
       parens_got f q w x = whole_got parensᵏ 0 c h (inside_on closed_expression left a d e z b) bracket_quiet f q w x
@@ -66,65 +67,65 @@ module _ {s : List ℕ} (c : Cursor) (h : 1 ≤ c.at.0) {k : Skip} (skips : Skip
   argued : Reads (rule expr) s (cursor k.at.0 c.count.0 k.met) left t t₁ r₁
   argued = rule_reads (let z = skips.on in omega arith) skips.within a
 
-  pub argument_none : ((d : Cursor) → r₁ ≡ Got d → ⊥) → Reads expression_arg s c left t t₁ r₁
+  pub argument_none : IsErr r₁ → Reads expression_arg s c left t t₁ r₁
   unfolding expression_arg
   argument_none g = record { reading = λ l. argument_out skips (argued.reading l) g }
 
-  pub argument_one : (d : Cursor) → r₁ ≡ Got d → (n : ℕ) → n + 1 ≡ d.count.0 → {t' : List ℕ} → t' ≡ replaced t₁ n c.at.0 k.at.0 d.at.0
-      → Reads expression_arg s c left t t' (Got d)
+  pub argument_one : (d : Cursor) → r₁ ≡ Ok d → (n : ℕ) → n + 1 ≡ d.count.0 → {t' : List ℕ} → t' ≡ replaced t₁ n c.at.0 k.at.0 d.at.0
+      → Reads expression_arg s c left t t' (Ok d)
   unfolding expression_arg
   argument_one d e n z x = record { reading = λ l. reading_to x (argument_got skips (argued.reading l) tt tt d e n z) }
 
 -- arguments, or none, and `)`
 module _ {s : List ℕ} {c : Cursor} {left : ℕ} {t t₁ : List ℕ} {r₁ : Read} (a : Reads (arg_list expression_arg) s c left t t₁ r₁) where
-  pub args_got : (d : Cursor) → r₁ ≡ Got d → {t₂ : List ℕ} {r₂ : Read} → Leafs (mark 41) s d t₁ t₂ r₂ → Reads call_args s c left t t₂ r₂
+  pub args_got : (d : Cursor) → r₁ ≡ Ok d → {t₂ : List ℕ} {r₂ : Read} → Leafs (mark 41) s d t₁ t₂ r₂ → Reads call_args s c left t t₂ r₂
   unfolding call_args
   args_got d e b =
       then_got (record { reading = λ l. opt_first (a.reading l) λ x q. got_miss d x (sym e ∙ q) }) (mark 41) opt_list_quiet d e (reads_leaf left b)
 
-  pub args_miss : (x : Bool) → r₁ ≡ Miss x → {t₂ : List ℕ} {r₂ : Read} → Leafs (mark 41) s (cursor c.at.0 c.count.0 x) t₁ t₂ r₂
+  pub args_miss : (x : Bool) → r₁ ≡ Err (Miss x) → {t₂ : List ℕ} {r₂ : Read} → Leafs (mark 41) s (cursor c.at.0 c.count.0 x) t₁ t₂ r₂
       → Reads call_args s c left t t₂ r₂
   unfolding call_args
   args_miss x e b =
-      then_got {r₁ = Got (cursor c.at.0 c.count.0 x)} (record { reading = λ l. opt_miss (a.reading l) x e }) (mark 41) opt_list_quiet _ refl (reads_leaf left b)
+      then_got {r₁ = Ok (cursor c.at.0 c.count.0 x)} (record { reading = λ l. opt_miss (a.reading l) x e }) (mark 41) opt_list_quiet _ refl (reads_leaf left b)
 
-  pub args_deep : r₁ ≡ Deep → Reads call_args s c left t t₁ Deep
+  pub args_deep : r₁ ≡ Err Deep → Reads call_args s c left t t₁ (Err Deep)
   unfolding call_args
   args_deep e =
       subst (Reads (opt (arg_list expression_arg) ▸ mark 41) s c left t t₁) e
-      (then_out (record { reading = λ l. opt_first (a.reading l) λ x q. miss_deep x (sym q ∙ e) }) (mark 41) λ d q. got_deep d (sym q ∙ e))
+      (then_out (record { reading = λ l. opt_first (a.reading l) λ x q. miss_deep x (sym q ∙ e) }) (mark 41) (ap is_err e))
 
 -- Calls ------------------------------------------------------------------------
 
 -- `(` and arguments
 module _ {s : List ℕ} {c : Cursor} (left : ℕ) {t t₁ : List ℕ} {r₁ : Read} (a : Leafs (mark 40) s c t t₁ r₁) where
-  pub open_out : ((d : Cursor) → r₁ ≡ Got d → ⊥) → Reads call_parens s c left t t₁ r₁
+  pub open_out : IsErr r₁ → Reads call_parens s c left t t₁ r₁
   unfolding call_parens
   open_out g = inside_out call_args left a g
 
-  pub open_none : (d : Cursor) → r₁ ≡ Got d → left ≡ 0 → Reads call_parens s c left t t₁ Deep
+  pub open_none : (d : Cursor) → r₁ ≡ Ok d → left ≡ 0 → Reads call_parens s c left t t₁ (Err Deep)
   unfolding call_parens
   open_none d e z = inside_none call_args left a d e z
 
-  pub open_on : (d : Cursor) → r₁ ≡ Got d → (left ≡ 0 → ⊥) → {t₂ : List ℕ} {r₂ : Read} → Reads call_args s d (left - 1) t₁ t₂ r₂ → Reads call_parens s c left t t₂ r₂
+  pub open_on : (d : Cursor) → r₁ ≡ Ok d → (left ≡ 0 → ⊥) → {t₂ : List ℕ} {r₂ : Read} → Reads call_args s d (left - 1) t₁ t₂ r₂ → Reads call_parens s c left t t₂ r₂
   unfolding call_parens
   open_on d e z b = inside_on call_args left a d e z b
 
 -- a name and its parentheses
 module _ {s : List ℕ} (c : Cursor) (h : c.at.0 ≤ length s) (left : ℕ) {t t₁ : List ℕ} {r₁ : Read} (a : Leafs mname s c t t₁ r₁) where
-  pub call_out : ((d : Cursor) → r₁ ≡ Got d → ⊥) → Reads fn_call s c left t t₁ r₁
+  pub call_out : IsErr r₁ → Reads fn_call s c left t t₁ r₁
   unfolding fn_call
   call_out g = whole_out callᵏ 0 c h (then_out (reads_leaf left a) call_parens g) g
 
-  module _ (d : Cursor) (e : r₁ ≡ Got d) {t₂ : List ℕ} {r₂ : Read} (b : Reads call_parens s d left t₁ t₂ r₂) where
+  module _ (d : Cursor) (e : r₁ ≡ Ok d) {t₂ : List ℕ} {r₂ : Read} (b : Reads call_parens s d left t₁ t₂ r₂) where
     called : Reads (mname ▸ call_parens) s c left t t₂ r₂
     called = then_got (reads_leaf left a) call_parens name_solid.quieted d e b
 
-    pub call_bare : ((d : Cursor) → r₂ ≡ Got d → ⊥) → Reads fn_call s c left t t₂ r₂
+    pub call_bare : IsErr r₂ → Reads fn_call s c left t t₂ r₂
     unfolding fn_call
     call_bare g = whole_out callᵏ 0 c h called g
 
-    pub call_got : (f : Cursor) → r₂ ≡ Got f → c.count.0 ≤ f.count.0 → {t' : List ℕ} {r : Read} → Around callᵏ 0 c c.at.0 f t₂ t' r
+    pub call_got : (f : Cursor) → r₂ ≡ Ok f → c.count.0 ≤ f.count.0 → {t' : List ℕ} {r : Read} → Around callᵏ 0 c c.at.0 f t₂ t' r
         → Reads fn_call s c left t t' r
     unfolding fn_call
     call_got f q w x = whole_got callᵏ 0 c h called call_quiet f q w x

@@ -15,9 +15,8 @@ use Rattle.cursor.specs.Text.{here, cursor, skip, Skips}
 use Rattle.cursor.specs.Agree.{full, Reading, Reads, Leafs}
 use Rattle.cursor.specs.declared.Cursor.{Cursor}
 use Rattle.cursor.specs.declared.Skip.{Skip}
-use Rattle.cursor.specs.declared.Read.{Read}
-use Rattle.cursor.specs.declared.Read.TheVariants.{Got, Miss, Deep}
-use Rattle.cursor.proofs.Agree.{found, found_here, lost, got_miss, got_deep, miss_deep, agrees_is, agrees_err}
+use Rattle.cursor.specs.Read.{Read}
+use Rattle.cursor.proofs.Agree.{found, found_here, lost, got_miss, miss_deep, agrees_is, agrees_err}
 use Rattle.cursor.proofs.Laws.{lies, stepped, reading_is, seq_got, opt_miss, opt_first}
 use Rattle.expression.specs.Mark.{mark}
 use Rattle.expression.specs.Around.{Around}
@@ -25,6 +24,8 @@ use Rattle.expression.specs.Sign.{signs, signed_factor, Missed, Maybe}
 use Rattle.expression.proofs.Facts.{mark_solid, inner_solid, opt_mark_quiet, signs_quiet}
 use Rattle.expression.proofs.Flags.{Head, Sign, flags_none, flags_signed, inner_head, sign_row}
 use Rattle.expression.proofs.Steps.{row_out, row_got, else_first, else_miss}
+use Rattle.cursor.specs.declared.Stop.TheVariants.{Miss, Deep}
+use Rattle.std.specs.Prelude.{Ok, Err, IsErr, is_err}
 
 -- What was met before ----------------------------------------------------------
 
@@ -93,7 +94,7 @@ factor_split {s} {c} a =
 
 module _ {s : List ℕ} (c : Cursor) {k : Skip} (skips : Skips trivia s c.at.0 c.met k) {left : ℕ} {t t₁ : List ℕ} {r₁ : Read}
     (a : Reads expression_factor_inner s (cursor k.at.0 c.count.0 k.met) left t t₁ r₁) where
-  pub factor_got : (d : Cursor) → r₁ ≡ Got d → c.count.0 ≤ d.count.0 → {t' : List ℕ} {r : Read} → Around factorᵏ 0 c k.at.0 d t₁ t' r
+  pub factor_got : (d : Cursor) → r₁ ≡ Ok d → c.count.0 ≤ d.count.0 → {t' : List ℕ} {r : Read} → Around factorᵏ 0 c k.at.0 d t₁ t' r
       → Reads expression_factor s c left t t' r
   factor_got d e h {t'} {r} b =
       factor_split (else_first
@@ -101,14 +102,14 @@ module _ {s : List ℕ} (c : Cursor) {k : Skip} (skips : Skips trivia s c.at.0 c
       (λ l v x j p. sym (flags_none v (subst (Yields λ v q. Head v) p (inner_head (full s) l (here s k.at.0))).holds)) b)
       signed_factor λ x q. got_miss _ x (sym b.answer ∙ q))
 
-  pub factor_deep : r₁ ≡ Deep → Reads expression_factor s c left t t₁ Deep
+  pub factor_deep : r₁ ≡ Err Deep → Reads expression_factor s c left t t₁ (Err Deep)
   factor_deep e =
       factor_split (subst (Reads (node factorᵏ flags trivia expression_factor_inner or signed_factor) s c left t t₁) e
-      (else_first (row_out factorᵏ flags c skips a.reading λ d q. got_deep d (sym q ∙ e)) signed_factor λ x q. miss_deep x (sym q ∙ e)))
+      (else_first (row_out factorᵏ flags c skips a.reading (ap is_err e)) signed_factor λ x q. miss_deep x (sym q ∙ e)))
 
-  module _ (x : Bool) (e : r₁ ≡ Miss x) where
+  module _ (x : Bool) (e : r₁ ≡ Err (Miss x)) where
     pub factor_miss : {t' : List ℕ} {r : Read} → Reads signed_factor s (cursor c.at.0 c.count.0 x) left t₁ t' r → Reads expression_factor s c left t t' r
-    factor_miss b = factor_split (else_miss (row_out factorᵏ flags c skips a.reading λ d q. got_miss d x (sym q ∙ e)) signed_factor x e b)
+    factor_miss b = factor_split (else_miss (row_out factorᵏ flags c skips a.reading (ap is_err e)) signed_factor x e b)
 
     -- what the second alternative starts from
     pub factor_skips : Skips trivia s c.at.0 x (skip k.at.0 x)
@@ -134,16 +135,16 @@ module _ {s : List ℕ} (c : Cursor) {k : Skip} (skips : Skips trivia s c.at.0 c
 
 -- a number, a call, or another
 module _ {s : List ℕ} {c : Cursor} {left : ℕ} {t t₁ : List ℕ} {r₁ : Read} (a : Reads number s c left t t₁ r₁) where
-  pub inner_first : ((x : Bool) → r₁ ≡ Miss x → ⊥) → Reads expression_factor_inner s c left t t₁ r₁
+  pub inner_first : ((x : Bool) → r₁ ≡ Err (Miss x) → ⊥) → Reads expression_factor_inner s c left t t₁ r₁
   unfolding expression_factor_inner
   inner_first h = else_first a (fn_call or others) h
 
-  module _ (x : Bool) (e : r₁ ≡ Miss x) {t₂ : List ℕ} {r₂ : Read} (b : Reads fn_call s (cursor c.at.0 c.count.0 x) left t₁ t₂ r₂) where
-    pub inner_second : ((y : Bool) → r₂ ≡ Miss y → ⊥) → Reads expression_factor_inner s c left t t₂ r₂
+  module _ (x : Bool) (e : r₁ ≡ Err (Miss x)) {t₂ : List ℕ} {r₂ : Read} (b : Reads fn_call s (cursor c.at.0 c.count.0 x) left t₁ t₂ r₂) where
+    pub inner_second : ((y : Bool) → r₂ ≡ Err (Miss y) → ⊥) → Reads expression_factor_inner s c left t t₂ r₂
     unfolding expression_factor_inner
     inner_second h = else_miss a (fn_call or others) x e (else_first b others h)
 
-    pub inner_third : (y : Bool) → r₂ ≡ Miss y → {t₃ : List ℕ} {r₃ : Read} → Reads others s (cursor c.at.0 c.count.0 y) left t₂ t₃ r₃
+    pub inner_third : (y : Bool) → r₂ ≡ Err (Miss y) → {t₃ : List ℕ} {r₃ : Read} → Reads others s (cursor c.at.0 c.count.0 y) left t₂ t₃ r₃
         → Reads expression_factor_inner s c left t t₃ r₃
     unfolding expression_factor_inner
     inner_third y f d = else_miss a (fn_call or others) x e (else_miss b others y f d)
@@ -152,7 +153,7 @@ module _ {s : List ℕ} {c : Cursor} {left : ℕ} {t t₁ : List ℕ} {r₁ : Re
 
 -- the character, or nothing
 module _ {b : ℕ} {s : List ℕ} {c : Cursor} {t t' : List ℕ} {r : Read} (a : Leafs (mark b) s c t t' r) where
-  pub maybe_got : c.at.0 ≤ length s → (d : Cursor) → r ≡ Got d → Maybe b s c t t' d
+  pub maybe_got : c.at.0 ≤ length s → (d : Cursor) → r ≡ Ok d → Maybe b s c t t' d
   maybe_got h d e =
       let st = stepped (mark_solid b) d h (a.reading 0 0) e in
       let f = found 0 c.met c.count.0 (scan (full s) (mark b) 0 (here s c.at.0)) d (sym e ∙ (a.reading 0 0).agrees.answer) in
@@ -174,7 +175,7 @@ module _ {b : ℕ} {s : List ℕ} {c : Cursor} {t t' : List ℕ} {r : Read} (a :
       sign_one (r ∷ []) h = omega arith
       sign_one (r ∷ (s ∷ v)) h = absurd h
 
-  pub maybe_miss : (x : Bool) → r ≡ Miss x → Maybe b s c t t' (cursor c.at.0 c.count.0 x)
+  pub maybe_miss : (x : Bool) → r ≡ Err (Miss x) → Maybe b s c t t' (cursor c.at.0 c.count.0 x)
   maybe_miss x e =
       record {
         leafs = record { reading = λ l lim. opt_miss (a.reading l lim) x e };
@@ -213,32 +214,32 @@ module _ {s : List ℕ} (c : Cursor) {k : Skip} (skips : Skips trivia s c.at.0 c
       (seq_got (y.leafs.reading l (l + left)) expression_factor_inner (opt_mark_quiet 45) q refl (a l))
 
   -- no sign: the same would not fit again
-  pub signed_none : Missed s k left → q.count.0 ≡ c.count.0 → Reads signed_factor s c left t t₂ (Miss q.met)
+  pub signed_none : Missed s k left → q.count.0 ≡ c.count.0 → Reads signed_factor s c left t t₂ (Err (Miss q.met))
   unfolding signed_factor
-  signed_none h z = row_out factorᵏ flags c skips (signs_on missed) λ d e. got_miss d q.met (sym e)
+  signed_none h z = row_out factorᵏ flags c skips (signs_on missed) refl
     where
       at : q.at.0 ≡ k.at.0
       at = let same : p.count.0 ≡ c.count.0 = omega (arith, x.grown, y.grown) in y.none (z ∙ sym same) ∙ x.none same
 
-      missed : (l : ℕ) → Reading expression_factor_inner s l (l + left) q.at.0 q.met q.count.0 t₂ t₂ (Miss q.met)
+      missed : (l : ℕ) → Reading expression_factor_inner s l (l + left) q.at.0 q.met q.count.0 t₂ t₂ (Err (Miss q.met))
       missed l =
           let o = scan (full s) expression_factor_inner l (here s k.at.0) in
           let i = lost (l + left) k.met 0 o k.met (h.again l 0 t₂).agrees.answer in
           let f = found (l + left) k.met c.count.0 (scan (full s) (opt (mark 33)) l (here s k.at.0)) p (x.leafs.reading l (l + left)).agrees.answer in
           let g = found (l + left) p.met p.count.0 (scan (full s) (opt (mark 45)) l (here s p.at.0)) q (y.leafs.reading l (l + left)).agrees.answer in
-          subst (λ (n : ℕ). Reading expression_factor_inner s l (l + left) n q.met q.count.0 t₂ t₂ (Miss q.met)) (sym at)
+          subst (λ (n : ℕ). Reading expression_factor_inner s l (l + left) n q.met q.count.0 t₂ t₂ (Err (Miss q.met))) (sym at)
           (record {
             agrees = agrees_is i.is (agrees_err (l + left) q.met q.count.0 [] t₂ i.b i.k q.met i.low
                 (noted_on k.met i.b f.b g.b p.met q.met f.noted g.noted i.noted));
           })
 
   module _ {t₃ : List ℕ} {r₃ : Read} (a : Reads expression_factor_inner s q left t₂ t₃ r₃) where
-    pub signed_out : ((d : Cursor) → r₃ ≡ Got d → ⊥) → Reads signed_factor s c left t t₃ r₃
+    pub signed_out : IsErr r₃ → Reads signed_factor s c left t t₃ r₃
     unfolding signed_factor
     signed_out h = row_out factorᵏ flags c skips (signs_on a.reading) h
 
     -- what the signs add to the flags is how many rows they have
-    pub signed_got : (d : Cursor) → r₃ ≡ Got d → c.count.0 ≤ d.count.0 → {t' : List ℕ} {r : Read}
+    pub signed_got : (d : Cursor) → r₃ ≡ Ok d → c.count.0 ≤ d.count.0 → {t' : List ℕ} {r : Read}
         → Around factorᵏ (p.count.0 - c.count.0 + 2 * (q.count.0 - p.count.0)) c k.at.0 d t₃ t' r → Reads signed_factor s c left t t' r
     unfolding signed_factor
     signed_got d e h b = row_got factorᵏ flags c skips (signs_on a.reading) signs_quiet d e h (p.count.0 - c.count.0 + 2 * (q.count.0 - p.count.0)) detail b

@@ -11,8 +11,7 @@ use Rattle.reading.proofs.Tests.{quiet}
 use Rattle.cursor.specs.Text.{cursor}
 use Rattle.cursor.specs.Agree.{Leafs}
 use Rattle.cursor.specs.declared.Cursor.{Cursor}
-use Rattle.cursor.specs.declared.Read.{Read}
-use Rattle.cursor.specs.declared.Read.TheVariants.{Got, Miss}
+use Rattle.cursor.specs.Read.{Read}
 use Rattle.cursor.proofs.Agree.{got_miss}
 use Rattle.cursor.proofs.Laws.{Solid, seq_got, opt_miss, opt_first}
 use Rattle.expression.specs.Mark.{mark}
@@ -20,6 +19,8 @@ use Rattle.expression.specs.Around.{Around}
 use Rattle.expression.specs.Path.{modified_path}
 use Rattle.expression.proofs.Facts.{mark_solid}
 use Rattle.expression.proofs.Steps.{leaf_out, leaf_got}
+use Rattle.cursor.specs.declared.Stop.TheVariants.{Miss}
+use Rattle.std.specs.Prelude.{Ok, Err, IsErr}
 
 pub modifier_solid : Solid modifier
 unfolding all_rules
@@ -44,31 +45,31 @@ mname_is a = a
 
 -- a path, perhaps with `<` or `>` in front
 module _ {s : List ℕ} {c : Cursor} {t t₁ : List ℕ} {r₁ : Read} (a : Leafs modifier s c t t₁ r₁) where
-  pub modified_got : (d : Cursor) → r₁ ≡ Got d → {t₂ : List ℕ} {r₂ : Read} → Leafs (ws pathᵏ 0 identifier_path) s d t₁ t₂ r₂ → Leafs modified_path s c t t₂ r₂
+  pub modified_got : (d : Cursor) → r₁ ≡ Ok d → {t₂ : List ℕ} {r₂ : Read} → Leafs (ws pathᵏ 0 identifier_path) s d t₁ t₂ r₂ → Leafs modified_path s c t t₂ r₂
   unfolding modified_path path
   modified_got d e b =
       record { reading = λ l lim. seq_got (opt_first (a.reading l lim) λ x q. got_miss d x (sym e ∙ q)) path opt_modifier_quiet d e (b.reading l lim) }
 
-  pub modified_miss : (x : Bool) → r₁ ≡ Miss x → {t₂ : List ℕ} {r₂ : Read} → Leafs (ws pathᵏ 0 identifier_path) s (cursor c.at.0 c.count.0 x) t₁ t₂ r₂
+  pub modified_miss : (x : Bool) → r₁ ≡ Err (Miss x) → {t₂ : List ℕ} {r₂ : Read} → Leafs (ws pathᵏ 0 identifier_path) s (cursor c.at.0 c.count.0 x) t₁ t₂ r₂
       → Leafs modified_path s c t t₂ r₂
   unfolding modified_path path
   modified_miss x e b = record { reading = λ l lim. seq_got (opt_miss (a.reading l lim) x e) path opt_modifier_quiet _ refl (b.reading l lim) }
 
 -- the row around each
 module _ {s : List ℕ} (c : Cursor) (h : c.at.0 ≤ length s) {t t₁ : List ℕ} {r₁ : Read} where
-  pub value_out : Leafs modified_path s c t t₁ r₁ → ((d : Cursor) → r₁ ≡ Got d → ⊥) → Leafs identifier_value s c t t₁ r₁
+  pub value_out : Leafs modified_path s c t t₁ r₁ → IsErr r₁ → Leafs identifier_value s c t t₁ r₁
   unfolding identifier_value modified_path
   value_out a g = leaf_out identifierᵏ 0 c h a g
 
-  pub pc_out : Leafs (mark 42) s c t t₁ r₁ → ((d : Cursor) → r₁ ≡ Got d → ⊥) → Leafs current_pc s c t t₁ r₁
+  pub pc_out : Leafs (mark 42) s c t t₁ r₁ → IsErr r₁ → Leafs current_pc s c t t₁ r₁
   unfolding current_pc
   pc_out a g = leaf_out current_pcᵏ 0 c h a g
 
-  pub string_out : Leafs interpolated_string s c t t₁ r₁ → ((d : Cursor) → r₁ ≡ Got d → ⊥) → Leafs interpolated_string_factor s c t t₁ r₁
+  pub string_out : Leafs interpolated_string s c t t₁ r₁ → IsErr r₁ → Leafs interpolated_string_factor s c t t₁ r₁
   unfolding interpolated_string_factor
   string_out a g = leaf_out string_factorᵏ 0 c h a g
 
-  module _ (d : Cursor) (e : r₁ ≡ Got d) (g : c.count.0 ≤ d.count.0) {t' : List ℕ} {r : Read} where
+  module _ (d : Cursor) (e : r₁ ≡ Ok d) (g : c.count.0 ≤ d.count.0) {t' : List ℕ} {r : Read} where
     pub value_got : Leafs modified_path s c t t₁ r₁ → Around identifierᵏ 0 c c.at.0 d t₁ t' r → Leafs identifier_value s c t t' r
     unfolding identifier_value modified_path
     value_got a b = leaf_got identifierᵏ 0 c h a path_solid.quieted d e g b

@@ -15,14 +15,15 @@ use Rattle.cursor.specs.Text.{here, cursor, skip, Skips}
 use Rattle.cursor.specs.Agree.{full, Reading, Reads, Leafs, Ready}
 use Rattle.cursor.specs.declared.Cursor.{Cursor}
 use Rattle.cursor.specs.declared.Skip.{Skip}
-use Rattle.cursor.specs.declared.Read.{Read}
-use Rattle.cursor.specs.declared.Read.TheVariants.{Got, Miss, Deep}
+use Rattle.cursor.specs.Read.{Read}
 use Rattle.cursor.proofs.Agree.{lost}
 use Rattle.cursor.proofs.Laws.{Stepped, reading_to, skips_empty, seq_out, seq_got, or_miss, or_first, node_out, node_got}
 use Rattle.cursor.proofs.Laws.{bracket_out, bracket_none, bracket_in}
 use Rattle.expression.specs.Mark.{mark}
 use Rattle.expression.specs.Around.{Around}
 use Rattle.expression.proofs.Facts.{trivia_quiet}
+use Rattle.cursor.specs.declared.Stop.TheVariants.{Miss, Deep}
+use Rattle.std.specs.Prelude.{Ok, Err, IsErr}
 
 -- Where the next is called ---------------------------------------------------
 
@@ -44,28 +45,28 @@ ready_step h st = record { small = h.small; within = st.within; few = omega (ari
 
 -- what `around` asks for
 pub around_fits : {s : List ℕ} {c d : Cursor} → Ready 0 s c → Ready 0 s d → c.count.0 ≤ d.count.0 → (low : ℕ) → low ≤ length s
-    → (kind detail : ℕ) → kind < 2 ^ 32 → detail < 2 ^ 32
-    → (c.count.0 ≤ d.count.0) × (d.count.0 < 2 ^ 31) × (c.at.0 < 2 ^ 32) × (low < 2 ^ 32) × (d.at.0 < 2 ^ 32) × (kind < 2 ^ 32) × (detail < 2 ^ 32)
-around_fits h i g low e kind detail x y =
+    → (detail : ℕ) → detail < 2 ^ 32
+    → (c.count.0 ≤ d.count.0) × (d.count.0 < 2 ^ 31) × (c.at.0 < 2 ^ 32) × (low < 2 ^ 32) × (d.at.0 < 2 ^ 32) × (detail < 2 ^ 32)
+around_fits h i g low e detail y =
     let small = h.small in
     let near = h.within in
     let far = i.within in
     let few = i.few in
-    (g, omega arith, omega arith, omega arith, omega arith, x, y)
+    (g, omega arith, omega arith, omega arith, omega arith, y)
 
 -- One after the other, one or the other ----------------------------------------
 
 module _ {m : Parser} {s : List ℕ} {c : Cursor} {left : ℕ} {t t₁ : List ℕ} {r₁ : Read} (a : Reads m s c left t t₁ r₁) (n : Parser) where
-  pub then_out : ((d : Cursor) → r₁ ≡ Got d → ⊥) → Reads (m ▸ n) s c left t t₁ r₁
+  pub then_out : IsErr r₁ → Reads (m ▸ n) s c left t t₁ r₁
   then_out h = record { reading = λ l. seq_out (a.reading l) n h }
 
-  pub then_got : T (quiet m) → (d : Cursor) → r₁ ≡ Got d → {t' : List ℕ} {r : Read} → Reads n s d left t₁ t' r → Reads (m ▸ n) s c left t t' r
+  pub then_got : T (quiet m) → (d : Cursor) → r₁ ≡ Ok d → {t' : List ℕ} {r : Read} → Reads n s d left t₁ t' r → Reads (m ▸ n) s c left t t' r
   then_got u d e b = record { reading = λ l. seq_got (a.reading l) n u d e (b.reading l) }
 
-  pub else_first : ((x : Bool) → r₁ ≡ Miss x → ⊥) → Reads (m or n) s c left t t₁ r₁
+  pub else_first : ((x : Bool) → r₁ ≡ Err (Miss x) → ⊥) → Reads (m or n) s c left t t₁ r₁
   else_first h = record { reading = λ l. or_first (a.reading l) n h }
 
-  pub else_miss : (x : Bool) → r₁ ≡ Miss x → {t' : List ℕ} {r : Read} → Reads n s (cursor c.at.0 c.count.0 x) left t₁ t' r
+  pub else_miss : (x : Bool) → r₁ ≡ Err (Miss x) → {t' : List ℕ} {r : Read} → Reads n s (cursor c.at.0 c.count.0 x) left t₁ t' r
       → Reads (m or n) s c left t t' r
   else_miss x e b = record { reading = λ l. or_miss (a.reading l) n x e (b.reading l) }
 
@@ -74,7 +75,7 @@ module _ {m : Parser} {s : List ℕ} {c : Cursor} {left : ℕ} {t t₁ : List �
 -- the row around what was read is pushed last
 module _ (k : ℕ) (f : Rows → ℕ) {w : Parser} {s : List ℕ} (c : Cursor) {x : Skip} (skips : Skips w s c.at.0 c.met x) {m : Parser} where
   row_at : {l lim : ℕ} {t t₁ : List ℕ} {r₁ : Read} → Reading m s l lim x.at.0 x.met c.count.0 t t₁ r₁
-      → T (quiet m) → (d : Cursor) → r₁ ≡ Got d → c.count.0 ≤ d.count.0 → (e : ℕ)
+      → T (quiet m) → (d : Cursor) → r₁ ≡ Ok d → c.count.0 ≤ d.count.0 → (e : ℕ)
       → ((v : Rows) (b : Bool) (j : ℕ) → scan (full s) m l (here s x.at.0) ≡ fits v (here s d.at.0) b j → e ≡ f v)
       → {t' : List ℕ} {r : Read} → Around k e c x.at.0 d t₁ t' r → Reading (node k f w m) s l lim c.at.0 c.met c.count.0 t t' r
   row_at {l} {lim} {t} a u d q h e detail {t'} b =
@@ -82,28 +83,28 @@ module _ (k : ℕ) (f : Rows → ℕ) {w : Parser} {s : List ℕ} (c : Cursor) {
       (reading_to b.table (node_got k f skips a u d q (d.count.0 + 1 - c.count.0) e (omega arith) detail))
 
   module _ {left : ℕ} {t t₁ : List ℕ} {r₁ : Read} (a : (l : ℕ) → Reading m s l (l + left) x.at.0 x.met c.count.0 t t₁ r₁) where
-    pub row_out : ((d : Cursor) → r₁ ≡ Got d → ⊥) → Reads (node k f w m) s c left t t₁ r₁
+    pub row_out : IsErr r₁ → Reads (node k f w m) s c left t t₁ r₁
     row_out h = record { reading = λ l. node_out k f skips (a l) h }
 
-    pub row_got : T (quiet m) → (d : Cursor) → r₁ ≡ Got d → c.count.0 ≤ d.count.0 → (e : ℕ)
+    pub row_got : T (quiet m) → (d : Cursor) → r₁ ≡ Ok d → c.count.0 ≤ d.count.0 → (e : ℕ)
         → ((l : ℕ) (v : Rows) (b : Bool) (j : ℕ) → scan (full s) m l (here s x.at.0) ≡ fits v (here s d.at.0) b j → e ≡ f v)
         → {t' : List ℕ} {r : Read} → Around k e c x.at.0 d t₁ t' r → Reads (node k f w m) s c left t t' r
     row_got u d q h e detail b = record { reading = λ l. row_at (a l) u d q h e (detail l) b }
 
 -- a row around what begins here
 module _ (k e : ℕ) {s : List ℕ} (c : Cursor) (h : c.at.0 ≤ length s) {m : Parser} {t t₁ : List ℕ} {r₁ : Read} where
-  pub whole_out : {left : ℕ} → Reads m s c left t t₁ r₁ → ((d : Cursor) → r₁ ≡ Got d → ⊥) → Reads (node k (always e) empty m) s c left t t₁ r₁
+  pub whole_out : {left : ℕ} → Reads m s c left t t₁ r₁ → IsErr r₁ → Reads (node k (always e) empty m) s c left t t₁ r₁
   whole_out a g = row_out k (always e) c (skips_empty s c.at.0 c.met h) a.reading g
 
-  pub whole_got : {left : ℕ} → Reads m s c left t t₁ r₁ → T (quiet m) → (d : Cursor) → r₁ ≡ Got d → c.count.0 ≤ d.count.0
+  pub whole_got : {left : ℕ} → Reads m s c left t t₁ r₁ → T (quiet m) → (d : Cursor) → r₁ ≡ Ok d → c.count.0 ≤ d.count.0
       → {t' : List ℕ} {r : Read} → Around k e c c.at.0 d t₁ t' r → Reads (node k (always e) empty m) s c left t t' r
   whole_got a u d q g b = row_got k (always e) c (skips_empty s c.at.0 c.met h) a.reading u d q g e (λ l v x j p. refl) b
 
   -- the same where no level is entered
-  pub leaf_out : Leafs m s c t t₁ r₁ → ((d : Cursor) → r₁ ≡ Got d → ⊥) → Leafs (node k (always e) empty m) s c t t₁ r₁
+  pub leaf_out : Leafs m s c t t₁ r₁ → IsErr r₁ → Leafs (node k (always e) empty m) s c t t₁ r₁
   leaf_out a g = record { reading = λ l lim. node_out k (always e) (skips_empty s c.at.0 c.met h) (a.reading l lim) g }
 
-  pub leaf_got : Leafs m s c t t₁ r₁ → T (quiet m) → (d : Cursor) → r₁ ≡ Got d → c.count.0 ≤ d.count.0
+  pub leaf_got : Leafs m s c t t₁ r₁ → T (quiet m) → (d : Cursor) → r₁ ≡ Ok d → c.count.0 ≤ d.count.0
       → {t' : List ℕ} {r : Read} → Around k e c c.at.0 d t₁ t' r → Leafs (node k (always e) empty m) s c t t' r
   leaf_got a u d q g b = record { reading = λ l lim. row_at k (always e) c (skips_empty s c.at.0 c.met h) (a.reading l lim) u d q g e (λ v x j p. refl) b }
 
@@ -111,11 +112,11 @@ module _ (k e : ℕ) {s : List ℕ} (c : Cursor) (h : c.at.0 ≤ length s) {m : 
 
 -- the opening character, and what is inside, one level deeper
 module _ (m : Parser) (left : ℕ) {b : ℕ} {s : List ℕ} {c : Cursor} {t t₁ : List ℕ} {r₁ : Read} (a : Leafs (mark b) s c t t₁ r₁) where
-  pub inside_out : ((d : Cursor) → r₁ ≡ Got d → ⊥) → Reads (bracket trivia b m) s c left t t₁ r₁
+  pub inside_out : IsErr r₁ → Reads (bracket trivia b m) s c left t t₁ r₁
   inside_out h = record { reading = λ l. bracket_out m left (a.reading l (l + left)) h }
 
-  module _ (d : Cursor) (e : r₁ ≡ Got d) where
-    pub inside_none : left ≡ 0 → Reads (bracket trivia b m) s c left t t₁ Deep
+  module _ (d : Cursor) (e : r₁ ≡ Ok d) where
+    pub inside_none : left ≡ 0 → Reads (bracket trivia b m) s c left t t₁ (Err Deep)
     inside_none z = record { reading = λ l. bracket_none m left (a.reading l (l + left)) trivia_quiet d e z }
 
     pub inside_on : (left ≡ 0 → ⊥) → {t' : List ℕ} {r : Read} → Reads m s d (left - 1) t₁ t' r → Reads (bracket trivia b m) s c left t t' r
@@ -141,7 +142,7 @@ pub record Noted (m n : Bool) : Type 0 where
   pub since : Bool
   pub is : n ≡ m || since
 
-pub noted_miss : {g : Parser} {s : List ℕ} {c : Cursor} {left : ℕ} {t t₁ : List ℕ} {r₁ : Read} → Reads g s c left t t₁ r₁ → (x : Bool) → r₁ ≡ Miss x → Noted c.met x
+pub noted_miss : {g : Parser} {s : List ℕ} {c : Cursor} {left : ℕ} {t t₁ : List ℕ} {r₁ : Read} → Reads g s c left t t₁ r₁ → (x : Bool) → r₁ ≡ Err (Miss x) → Noted c.met x
 noted_miss {g} {s} {c} {left} a x e =
     let y = lost (0 + left) c.met c.count.0 (scan (full s) g 0 (here s c.at.0)) x (sym e ∙ (a.reading 0).agrees.answer) in
     record { since = y.b; is = y.noted }

@@ -11,11 +11,11 @@ use Rattle.cursor.specs.Text.{here, Skips}
 use Rattle.cursor.specs.Agree.{full, Reads}
 use Rattle.cursor.specs.declared.Cursor.{Cursor}
 use Rattle.cursor.specs.declared.Skip.{Skip}
-use Rattle.cursor.specs.declared.Read.{Read}
-use Rattle.cursor.specs.declared.Read.TheVariants.{Got}
+use Rattle.cursor.specs.Read.{Read}
 use Rattle.cursor.proofs.Lows.{Low, low_node, low_chain}
 use Rattle.cursor.proofs.Loops.{ChainLeft, chain_out, chain_got}
 use Rattle.expression.proofs.Facts.{factor_solid, term_solid}
+use Rattle.std.specs.Prelude.{Ok, IsErr}
 
 module _ {s : List ℕ} {i : ℕ} {met : Bool} {k : Skip} (skips : Skips trivia s i met k) (l : ℕ) where
   low_factor : Yields (Low k.at.0) (scan (full s) expression_factor l (here s i))
@@ -32,15 +32,15 @@ module _ {s : List ℕ} {i : ℕ} {met : Bool} {k : Skip} (skips : Skips trivia 
   low_expression = low_chain expression_operator expression_term s l i low_term
 
 module _ {s : List ℕ} {c : Cursor} {left : ℕ} {t t₁ : List ℕ} {r₁ : Read} where
-  pub term_out : Reads expression_factor s c left t t₁ r₁ → ((d : Cursor) → r₁ ≡ Got d → ⊥) → Reads expression_term s c left t t₁ r₁
+  pub term_out : Reads expression_factor s c left t t₁ r₁ → IsErr r₁ → Reads expression_term s c left t t₁ r₁
   unfolding expression_term
   term_out a h = chain_out term_operator expression_factor a h
 
-  pub expression_out : Reads expression_term s c left t t₁ r₁ → ((d : Cursor) → r₁ ≡ Got d → ⊥) → Reads expression s c left t t₁ r₁
+  pub expression_out : Reads expression_term s c left t t₁ r₁ → IsErr r₁ → Reads expression s c left t t₁ r₁
   unfolding expression
   expression_out a h = chain_out expression_operator expression_term a h
 
-  module _ {met : Bool} {k : Skip} (skips : Skips trivia s c.at.0 met k) (d : Cursor) (e : r₁ ≡ Got d) {t' : List ℕ} {r : Read} where
+  module _ {met : Bool} {k : Skip} (skips : Skips trivia s c.at.0 met k) (d : Cursor) (e : r₁ ≡ Ok d) {t' : List ℕ} {r : Read} where
     pub term_got : Reads expression_factor s c left t t₁ r₁
         → ChainLeft term_operator expression_factor s c.count.0 k.at.0 left d.at.0 d.count.0 d.met t₁ t' r
         → Reads expression_term s c left t t' r

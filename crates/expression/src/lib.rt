@@ -6,6 +6,7 @@ ghost use Rattle.reading.specs.Grammar.{◌▸◌, ◌or◌};
 ghost use Rattle.reading.specs.Rules.{trivia, arg_list, expression_arg, call_args, call_parens, fn_call, identifier_value, current_pc, closed_expression, expression_parens, interpolated_string_factor, expression_factor_inner, expression_factor, term_operator, expression_term, expression_operator, expression};
 ghost use Rattle.cursor.specs.Text.{Skips};
 ghost use Rattle.cursor.specs.Agree.{Ready, Reads, Leafs};
+ghost use Rattle.table.specs.Kinds.{kind_number};
 ghost use Rattle.expression.specs.Mark.{mark};
 ghost use Rattle.expression.specs.Around.{Around};
 ghost use Rattle.expression.specs.Sign.{signed_factor, Missed, Maybe};
@@ -19,26 +20,24 @@ use table::{Kind, Pos, RowIndex};
 // Parts -----------------------------------------------------------------------
 
 // The row around what was read from `c` to `d`.
-fn around(c: Cursor, low: Pos, d: Cursor, kind: usize, detail: usize, rows: &mut [u32]) -> Read
-    requires { (c.count.0 ≤ d.count.0) × (d.count.0 < 2 ^ 31) × (c.at.0 < 2 ^ 32) × (low.0 < 2 ^ 32) × (d.at.0 < 2 ^ 32) × (kind < 2 ^ 32) × (detail < 2 ^ 32) }
-    ensures { Around kind detail c low.0 d rows.old rows.new result }
+fn around(c: Cursor, low: Pos, d: Cursor, kind: Kind, detail: usize, rows: &mut [u32]) -> Read
+    requires { (c.count.0 ≤ d.count.0) × (d.count.0 < 2 ^ 31) × (c.at.0 < 2 ^ 32) × (low.0 < 2 ^ 32) × (d.at.0 < 2 ^ 32) × (detail < 2 ^ 32) }
+    ensures { Around (kind_number kind) detail c low.0 d rows.old rows.new result }
 {
     let n = d.count.0;
-    let at = d.at;
     table::push_row(
         rows,
-        RowIndex(n),
+        d.count,
         kind,
         n + 1 - c.count.0,
         c.at,
         low,
-        at,
+        d.at,
         detail,
     );
     Ok(Cursor {
-        at,
         count: RowIndex(n + 1),
-        met: d.met,
+        ..d
     })
 }
 
@@ -84,18 +83,11 @@ fn modified_path(s: &[u8], c: Cursor, k: Skip, rows: &mut [u32]) -> Read
             identifier::path(s, d, j, rows)
         }
         Err(Stop::Miss(met)) => {
-            let at = c.at;
-            let count = c.count;
-            let low = k.at;
-            identifier::path(
-                s,
-                Cursor { at, count, met },
-                Skip {
-                    at: low,
-                    met: k.met | met,
-                },
-                rows,
-            )
+            let again = Skip {
+                met: k.met | met,
+                ..k
+            };
+            identifier::path(s, Cursor { met, ..c }, again, rows)
         }
         Err(Stop::Deep) => Err(Stop::Deep),
     }
@@ -129,46 +121,27 @@ pub fn expression(s: &[u8], c: Cursor, k: Skip, left: usize, rows: &mut [u32]) -
     requires skips { Skips trivia s.now c.at.0 c.met k }
     ensures { Reads expression s.now c left rows.old rows.new result }
 {
-    let base = c.count.0;
-    let low = k.at.0; // where the first term begins
-    let d = expression_term(s, c, k, left, rows)?;
-    let mut at = d.at.0;
-    let mut count = d.count.0;
-    let mut met = d.met;
+    let mut d = expression_term(s, c, k, left, rows)?;
     loop {
-        match next_term(
-            s,
-            Cursor {
-                at: Pos(at),
-                count: RowIndex(count),
-                met,
-            },
-            left,
-            rows,
-        ) {
+        match next_term(s, d, left, rows) {
             Ok(e) => {
                 let n = e.count.0;
-                at = e.at.0;
-                met = e.met;
                 table::push_row(
                     rows,
-                    RowIndex(n),
+                    e.count,
                     Kind::Binary,
-                    n + 1 - base,
-                    Pos(low),
-                    Pos(low),
-                    Pos(at),
+                    n + 1 - c.count.0,
+                    k.at,
+                    k.at,
+                    e.at,
                     0,
                 );
-                count = n + 1;
+                d = Cursor {
+                    count: RowIndex(n + 1),
+                    ..e
+                };
             }
-            Err(Stop::Miss(m)) => {
-                return Ok(Cursor {
-                    at: Pos(at),
-                    count: RowIndex(count),
-                    met: m,
-                });
-            }
+            Err(Stop::Miss(met)) => return Ok(Cursor { met, ..d }),
             Err(Stop::Deep) => return Err(Stop::Deep),
         }
     }
@@ -192,46 +165,27 @@ pub fn expression_term(s: &[u8], c: Cursor, k: Skip, left: usize, rows: &mut [u3
     requires skips { Skips trivia s.now c.at.0 c.met k }
     ensures { Reads expression_term s.now c left rows.old rows.new result }
 {
-    let base = c.count.0;
-    let low = k.at.0; // where the first factor begins
-    let d = expression_factor(s, c, k, left, rows)?;
-    let mut at = d.at.0;
-    let mut count = d.count.0;
-    let mut met = d.met;
+    let mut d = expression_factor(s, c, k, left, rows)?;
     loop {
-        match next_factor(
-            s,
-            Cursor {
-                at: Pos(at),
-                count: RowIndex(count),
-                met,
-            },
-            left,
-            rows,
-        ) {
+        match next_factor(s, d, left, rows) {
             Ok(e) => {
                 let n = e.count.0;
-                at = e.at.0;
-                met = e.met;
                 table::push_row(
                     rows,
-                    RowIndex(n),
+                    e.count,
                     Kind::Binary,
-                    n + 1 - base,
-                    Pos(low),
-                    Pos(low),
-                    Pos(at),
+                    n + 1 - c.count.0,
+                    k.at,
+                    k.at,
+                    e.at,
                     0,
                 );
-                count = n + 1;
+                d = Cursor {
+                    count: RowIndex(n + 1),
+                    ..e
+                };
             }
-            Err(Stop::Miss(m)) => {
-                return Ok(Cursor {
-                    at: Pos(at),
-                    count: RowIndex(count),
-                    met: m,
-                });
-            }
+            Err(Stop::Miss(met)) => return Ok(Cursor { met, ..d }),
             Err(Stop::Deep) => return Err(Stop::Deep),
         }
     }
@@ -255,20 +209,13 @@ pub fn expression_factor(s: &[u8], c: Cursor, k: Skip, left: usize, rows: &mut [
     requires skips { Skips trivia s.now c.at.0 c.met k }
     ensures { Reads expression_factor s.now c left rows.old rows.new result }
 {
-    let count = c.count;
-    let low = k.at;
-    match expression_factor_inner(
-        s,
-        Cursor {
-            at: low,
-            count,
-            met: k.met,
-        },
-        k,
-        left,
-        rows,
-    ) {
-        Ok(d) => around(c, low, d, Kind::Factor, 0, rows),
+    let start = Cursor {
+        at: k.at,
+        met: k.met,
+        ..c
+    };
+    match expression_factor_inner(s, start, k, left, rows) {
+        Ok(d) => around(c, k.at, d, Kind::Factor, 0, rows),
         Err(Stop::Miss(met)) => signed(s, Cursor { met, ..c }, Skip { met, ..k }, left, rows),
         Err(Stop::Deep) => Err(Stop::Deep),
     }
@@ -282,26 +229,20 @@ fn signed(s: &[u8], c: Cursor, k: Skip, left: usize, rows: &mut [u32]) -> Read
     requires missed { Missed s.now k left }
     ensures { Reads signed_factor s.now c left rows.old rows.new result }
 {
-    let count = c.count;
-    let low = k.at;
-    let p = sign(
-        s,
-        Cursor {
-            at: low,
-            count,
-            met: k.met,
-        },
-        b'!',
-        rows,
-    );
+    let start = Cursor {
+        at: k.at,
+        met: k.met,
+        ..c
+    };
+    let p = sign(s, start, b'!', rows);
     let q = sign(s, p, b'-', rows);
-    if q.count.0 == count.0 {
+    if q.count.0 == c.count.0 {
         return Err(Stop::Miss(q.met));
     }
     let j = trivia::trivia(s, q.at, q.met);
     let d = expression_factor_inner(s, q, j, left, rows)?;
-    let flags = p.count.0 - count.0 + 2 * (q.count.0 - p.count.0);
-    around(c, low, d, Kind::Factor, flags, rows)
+    let flags = p.count.0 - c.count.0 + 2 * (q.count.0 - p.count.0);
+    around(c, k.at, d, Kind::Factor, flags, rows)
 }
 
 // The alternatives in the Rust's order, each behind the trivia `k`. A call skips its own, since its name may come after line ends.
@@ -439,11 +380,7 @@ fn call_args(s: &[u8], c: Cursor, left: usize, rows: &mut [u32]) -> Read
 {
     match arguments(s, c, left, rows) {
         Ok(d) => mark(s, d, b')', rows),
-        Err(Stop::Miss(met)) => {
-            let at = c.at;
-            let count = c.count;
-            mark(s, Cursor { at, count, met }, b')', rows)
-        }
+        Err(Stop::Miss(met)) => mark(s, Cursor { met, ..c }, b')', rows),
         Err(Stop::Deep) => Err(Stop::Deep),
     }
 }
@@ -455,35 +392,12 @@ pub fn arguments(s: &[u8], c: Cursor, left: usize, rows: &mut [u32]) -> Read
     requires le_at { 1 ≤ c.at.0 }
     ensures { Reads (arg_list expression_arg) s.now c left rows.old rows.new result }
 {
-    let mut at = c.at.0;
-    let mut count = c.count.0;
-    let mut met = c.met;
+    let mut next = c;
     loop {
-        let d = argument(
-            s,
-            Cursor {
-                at: Pos(at),
-                count: RowIndex(count),
-                met,
-            },
-            left,
-            rows,
-        )?;
-        match mark(s, d, b',', rows) {
-            Ok(e) => {
-                at = e.at.0;
-                count = e.count.0;
-                met = e.met;
-            }
-            Err(Stop::Miss(m)) => {
-                let end = d.at.0;
-                let n = d.count.0;
-                return Ok(Cursor {
-                    at: Pos(end),
-                    count: RowIndex(n),
-                    met: m,
-                });
-            }
+        let last = argument(s, next, left, rows)?;
+        match mark(s, last, b',', rows) {
+            Ok(e) => next = e,
+            Err(Stop::Miss(met)) => return Ok(Cursor { met, ..last }),
             Err(Stop::Deep) => return Err(Stop::Deep),
         }
     }
@@ -496,23 +410,13 @@ fn argument(s: &[u8], c: Cursor, left: usize, rows: &mut [u32]) -> Read
     requires le_at { 1 ≤ c.at.0 }
     ensures { Reads expression_arg s.now c left rows.old rows.new result }
 {
-    let tlow = c.at;
-    let count = c.count;
-    let k = trivia::trivia(s, tlow, c.met);
-    let low = k.at;
-    let d = expression(
-        s,
-        Cursor {
-            at: low,
-            count,
-            met: k.met,
-        },
-        k,
-        left,
-        rows,
-    )?;
-    let n = d.count.0;
-    let high = d.at;
-    table::place_row(rows, RowIndex(n - 1), tlow, low, high);
+    let k = trivia::trivia(s, c.at, c.met);
+    let start = Cursor {
+        at: k.at,
+        met: k.met,
+        ..c
+    };
+    let d = expression(s, start, k, left, rows)?;
+    table::place_row(rows, RowIndex(d.count.0 - 1), c.at, k.at, d.at);
     Ok(d)
 }

@@ -1,3 +1,6 @@
+use mathlib.Core.Path.{refl, ap, ◌∙◌}
+use Rattle.std.specs.Prelude.{Err}
+use Rattle.std.proofs.lemmas.Result.{err_from_is_err_and}
 use native.Mathlib.Omega.{arith}
 use lib.Dec.{lit<}
 use Rattle.reading.specs.Rules.{trivia, multiline_trivia, expression_factor as factorᵍ, expression_term as termᵍ}
@@ -14,22 +17,23 @@ use Rattle.expression.proofs.Calls.{closed_out, closed_got, parens_out, parens_n
 use Rattle.expression.proofs.Calls.{open_out, open_none, open_on, call_out, call_bare, call_got}
 use Rattle.expression.proofs.+expression.Goals as goal
 
-pub argument-expression-f-requires : goal.argument-expression-f-requires
-argument-expression-f-requires t c =
+pub argument-expression-requires : goal.argument-expression-requires
+argument-expression-requires t c =
     (omega arith, (ready_skip c.requires.ready c.trivia-k.ensures, skips_again c.trivia-k.ensures))
 
-pub argument-returns-in_default : goal.argument-returns-in_default
-argument-returns-in_default t c =
-    argument_none c.args.c c.requires.le_at c.trivia-k.ensures c.expression-f.ensures c.in_default.not-Got
+pub argument-returns-in_err-d : goal.argument-returns-in_err-d
+argument-returns-in_err-d t c =
+    let p = err_from_is_err_and c.from_residual.result c.from_residual.ensures.1 in
+    rw (p.1, p.2) (argument_none c.args.c c.requires.le_at c.trivia-k.ensures c.in_err-d.ensures refl)
 
-pub argument-overflow_sub-n : goal.argument-overflow_sub-n
-argument-overflow_sub-n t c =
-    let st = stepped expression_solid c.in-Got.d c.trivia-k.ensures.within (c.expression-f.ensures.reading 0) c.in-Got.is in
+pub argument-overflow_sub-d : goal.argument-overflow_sub-d
+argument-overflow_sub-d t c =
+    let st = stepped expression_solid c.in_ok-d.d c.trivia-k.ensures.within (c.in_ok-d.ensures.reading 0) refl in
     omega (arith, st.grown)
 
 pub argument-place_row-requires : goal.argument-place_row-requires
 argument-place_row-requires t c =
-    let st = stepped expression_solid c.in-Got.d c.trivia-k.ensures.within (c.expression-f.ensures.reading 0) c.in-Got.is in (
+    let st = stepped expression_solid c.in_ok-d.d c.trivia-k.ensures.within (c.in_ok-d.ensures.reading 0) refl in (
       omega (arith, c.requires.ready.small, c.requires.ready.within),
       omega (arith, c.requires.ready.small, c.trivia-k.ensures.within),
       omega (arith, c.requires.ready.small, st.within),
@@ -37,101 +41,107 @@ argument-place_row-requires t c =
 
 pub argument-returns : goal.argument-returns
 argument-returns t c =
-    let st = stepped expression_solid c.in-Got.d c.trivia-k.ensures.within (c.expression-f.ensures.reading 0) c.in-Got.is in
-    argument_one c.args.c c.requires.le_at c.trivia-k.ensures c.expression-f.ensures c.in-Got.d c.in-Got.is _ (omega (arith, st.grown)) c.place_row.ensures
+    let st = stepped expression_solid c.in_ok-d.d c.trivia-k.ensures.within (c.in_ok-d.ensures.reading 0) refl in
+    argument_one c.args.c c.requires.le_at c.trivia-k.ensures c.in_ok-d.ensures c.in_ok-d.d refl _ (omega (arith, st.grown)) c.place_row.ensures
 
-pub arguments-loop-d-init : goal.arguments-loop-d-init
-arguments-loop-d-init t c = listed_none _ _ _ _ _ _ _ _ c.requires.ready.within
+pub arguments-loop-last-init : goal.arguments-loop-last-init
+arguments-loop-last-init t c = listed_none _ _ _ _ _ _ _ _ c.requires.ready.within
 
-pub arguments-returns-in_default : goal.arguments-returns-in_default
-arguments-returns-in_default t c = list_out c.loop-d.invariant c.argument-f.ensures c.in_default.not-Got
+pub arguments-returns-in_err-last : goal.arguments-returns-in_err-last
+arguments-returns-in_err-last t c =
+    let p = err_from_is_err_and c.from_residual.result c.from_residual.ensures.1 in
+    rw (p.1, p.2) (list_out c.loop-last.invariant c.in_err-last.ensures refl)
 
-pub arguments-mark-g-requires : goal.arguments-mark-g-requires
-arguments-mark-g-requires t c =
-    let st = list_step c.loop-d.invariant c.argument-f.ensures argument_solid c.in-Got.d c.in-Got.is in
-    record { small = c.requires.ready.small; within = st.within; few = omega (arith, st.rows, c.loop-d.invariant.progress.rows, c.requires.ready.few) }
+pub arguments-mark-requires : goal.arguments-mark-requires
+arguments-mark-requires t c =
+    let st = list_step c.loop-last.invariant c.in_ok-last.ensures argument_solid c.in_ok-last.last refl in
+    record { small = c.requires.ready.small; within = st.within; few = omega (arith, st.rows, c.loop-last.invariant.progress.rows, c.requires.ready.few) }
 
-pub arguments-loop-d-smaller : goal.arguments-loop-d-smaller
-arguments-loop-d-smaller t c =
-    let st = list_step c.loop-d.invariant c.argument-f.ensures argument_solid c.in-Got.d c.in-Got.is in
-    let sc = stepped (mark_solid 44) c.in-Got-g.e st.within (c.mark-g.ensures.reading 0 0) c.in-Got-g.is in
+pub arguments-loop-last-smaller : goal.arguments-loop-last-smaller
+arguments-loop-last-smaller t c =
+    let st = list_step c.loop-last.invariant c.in_ok-last.ensures argument_solid c.in_ok-last.last refl in
+    let sc = stepped (mark_solid 44) c.in-Ok.e st.within (c.mark.ensures.reading 0 0) c.in-Ok.is in
     omega (arith, st.on, st.within, sc.on, sc.within)
 
-pub arguments-loop-d-preserved : goal.arguments-loop-d-preserved
-arguments-loop-d-preserved t c =
-    list_more c.loop-d.invariant c.argument-f.ensures argument_solid c.in-Got.d c.in-Got.is c.mark-g.ensures comma_solid c.in-Got-g.e c.in-Got-g.is
-    c.argument-f.auto.rows c.mark-g.auto.rows
+pub arguments-loop-last-preserved : goal.arguments-loop-last-preserved
+arguments-loop-last-preserved t c =
+    list_more c.loop-last.invariant c.in_ok-last.ensures argument_solid c.in_ok-last.last refl c.mark.ensures comma_solid c.in-Ok.e c.in-Ok.is
+    c.argument.auto.rows c.mark.auto.rows
 
-pub arguments-returns-in-Miss : goal.arguments-returns-in-Miss
-arguments-returns-in-Miss t c =
-    list_last c.loop-d.invariant c.argument-f.ensures argument_solid c.in-Got.d c.in-Got.is c.mark-g.ensures _ c.in-Miss.is
+pub arguments-returns-in-Err-Miss : goal.arguments-returns-in-Err-Miss
+arguments-returns-in-Err-Miss t c =
+    list_last c.loop-last.invariant c.in_ok-last.ensures argument_solid c.in_ok-last.last refl c.mark.ensures _ (c.in-Err-Miss.is ∙ ap Err c.in-Err-Miss.field-0-is)
 
-pub arguments-returns-in-Deep : goal.arguments-returns-in-Deep
-arguments-returns-in-Deep t c = absurd (leaf_deep c.mark-g.ensures c.in-Deep.is)
+pub arguments-returns-in-Err-Deep : goal.arguments-returns-in-Err-Deep
+arguments-returns-in-Err-Deep t c = absurd (leaf_deep c.mark.ensures (c.in-Err-Deep.is ∙ ap Err c.in-Err-Deep.field-0-is))
 
 pub call_args-mark-requires : goal.call_args-mark-requires
 call_args-mark-requires t c =
-    let st = stepped list_solid c.in-Got.d c.requires.ready.within (c.arguments-f.ensures.reading 0) c.in-Got.is in
+    let st = stepped list_solid c.in-Ok.d c.requires.ready.within (c.arguments.ensures.reading 0) c.in-Ok.is in
     ready_four (ready_step c.requires.ready st)
 
-pub call_args-returns-in-Got : goal.call_args-returns-in-Got
-call_args-returns-in-Got t c =
-    args_got c.arguments-f.ensures c.in-Got.d c.in-Got.is c.mark.ensures
+pub call_args-returns-in-Ok : goal.call_args-returns-in-Ok
+call_args-returns-in-Ok t c =
+    args_got c.arguments.ensures c.in-Ok.d c.in-Ok.is c.mark.ensures
 
-pub call_args-returns-in-Miss : goal.call_args-returns-in-Miss
-call_args-returns-in-Miss t c =
-    args_miss c.arguments-f.ensures _ c.in-Miss.is c.mark-in-Miss.ensures
+pub call_args-returns-in-Err-Miss : goal.call_args-returns-in-Err-Miss
+call_args-returns-in-Err-Miss t c =
+    args_miss c.arguments.ensures _ (c.in-Err-Miss.is ∙ ap Err c.in-Err-Miss.field-0-is) c.mark-in-Err-Miss.ensures
 
-pub call_args-returns-in-Deep : goal.call_args-returns-in-Deep
-call_args-returns-in-Deep t c = args_deep c.arguments-f.ensures c.in-Deep.is
+pub call_args-returns-in-Err-Deep : goal.call_args-returns-in-Err-Deep
+call_args-returns-in-Err-Deep t c = args_deep c.arguments.ensures (c.in-Err-Deep.is ∙ ap Err c.in-Err-Deep.field-0-is)
 
-pub call_parens-returns-in_default : goal.call_parens-returns-in_default
-call_parens-returns-in_default t c =
-    open_out c.args.left c.mark-f.ensures c.in_default.not-Got
+pub call_parens-returns-in_err-d : goal.call_parens-returns-in_err-d
+call_parens-returns-in_err-d t c =
+    let p = err_from_is_err_and c.from_residual.result c.from_residual.ensures.1 in
+    rw (p.1, p.2) (open_out c.args.left c.in_err-d.ensures refl)
 
 pub call_parens-returns-then-left-eq0 : goal.call_parens-returns-then-left-eq0
 call_parens-returns-then-left-eq0 t c =
-    open_none c.args.left c.mark-f.ensures c.in-Got.d c.in-Got.is c.if-left-eq0.true
+    open_none c.args.left c.in_ok-d.ensures c.in_ok-d.d refl c.if-left-eq0.true
 
 pub call_parens-call_args-requires : goal.call_parens-call_args-requires
 call_parens-call_args-requires t c =
-    let st = stepped (mark_solid 40) c.in-Got.d c.requires.within (c.mark-f.ensures.reading 0 0) c.in-Got.is in
+    let st = stepped (mark_solid 40) c.in_ok-d.d c.requires.within (c.in_ok-d.ensures.reading 0 0) refl in
     (omega arith, (ready_step c.requires st, omega (arith, st.on)))
 
 pub call_parens-returns : goal.call_parens-returns
 call_parens-returns t c =
-    open_on c.args.left c.mark-f.ensures c.in-Got.d c.in-Got.is c.if-left-eq0.false c.call_args.ensures
+    open_on c.args.left c.in_ok-d.ensures c.in_ok-d.d refl c.if-left-eq0.false c.call_args.ensures
 
-pub closed-returns-in_default : goal.closed-returns-in_default
-closed-returns-in_default t c =
-    closed_out c.requires.le_at c.requires.ready.within c.expression-f.ensures c.in_default.not-Got
+pub closed-returns-in_err-d : goal.closed-returns-in_err-d
+closed-returns-in_err-d t c =
+    let p = err_from_is_err_and c.from_residual.result c.from_residual.ensures.1 in
+    rw (p.1, p.2) (closed_out c.requires.le_at c.requires.ready.within c.in_err-d.ensures refl)
 
 pub closed-mark-requires : goal.closed-mark-requires
 closed-mark-requires t c =
-    let st = stepped expression_solid c.in-Got.d c.requires.ready.within (c.expression-f.ensures.reading 0) c.in-Got.is in
+    let st = stepped expression_solid c.in_ok-d.d c.requires.ready.within (c.in_ok-d.ensures.reading 0) refl in
     ready_four (ready_step c.requires.ready st)
 
 pub closed-returns : goal.closed-returns
 closed-returns t c =
-    closed_got c.requires.le_at c.requires.ready.within c.expression-f.ensures c.in-Got.d c.in-Got.is c.mark.ensures
+    closed_got c.requires.le_at c.requires.ready.within c.in_ok-d.ensures c.in_ok-d.d refl c.mark.ensures
 
-pub expression-returns-in_default : goal.expression-returns-in_default
-expression-returns-in_default t c = expression_out c.expression_term-f.ensures c.in_default.not-Got
+pub expression-returns-in_err-d : goal.expression-returns-in_err-d
+expression-returns-in_err-d t c =
+    let p = err_from_is_err_and c.from_residual.result c.from_residual.ensures.1 in
+    rw (p.1, p.2) (expression_out c.in_err-d.ensures refl)
 
 pub expression-loop-e-init : goal.expression-loop-e-init
 expression-loop-e-init t c =
-    let s1 = stepped term_solid c.in-Got.d c.requires.ready.within (c.expression_term-f.ensures.reading 0) c.in-Got.is in
+    let s1 = stepped term_solid c.in_ok-d.d c.requires.ready.within (c.in_ok-d.ensures.reading 0) refl in
     chained_none _ _ _ _ _ _ _ _ _ _ s1.within s1.grown
 
-pub expression-next_term-g-requires : goal.expression-next_term-g-requires
-expression-next_term-g-requires t c =
-    let s1 = stepped term_solid c.in-Got.d c.requires.ready.within (c.expression_term-f.ensures.reading 0) c.in-Got.is in
+pub expression-next_term-requires : goal.expression-next_term-requires
+expression-next_term-requires t c =
+    let s1 = stepped term_solid c.in_ok-d.d c.requires.ready.within (c.in_ok-d.ensures.reading 0) refl in
     (omega arith, progress_ready c.loop-e.invariant.progress (ready_step c.requires.ready s1))
 
 pub expression-overflow_add-n : goal.expression-overflow_add-n
 expression-overflow_add-n t c =
-    let s1 = stepped term_solid c.in-Got.d c.requires.ready.within (c.expression_term-f.ensures.reading 0) c.in-Got.is in
-    let st = chain_step expression_chain c.loop-e.invariant c.next_term-g.ensures c.in-Got-g.e c.in-Got-g.is in
+    let s1 = stepped term_solid c.in_ok-d.d c.requires.ready.within (c.in_ok-d.ensures.reading 0) refl in
+    let st = chain_step expression_chain c.loop-e.invariant c.next_term.ensures c.in-Ok.e c.in-Ok.is in
     omega (
       arith,
       st.within,
@@ -150,8 +160,8 @@ expression-overflow_add-n t c =
 
 pub expression-overflow_sub-n : goal.expression-overflow_sub-n
 expression-overflow_sub-n t c =
-    let s1 = stepped term_solid c.in-Got.d c.requires.ready.within (c.expression_term-f.ensures.reading 0) c.in-Got.is in
-    let st = chain_step expression_chain c.loop-e.invariant c.next_term-g.ensures c.in-Got-g.e c.in-Got-g.is in
+    let s1 = stepped term_solid c.in_ok-d.d c.requires.ready.within (c.in_ok-d.ensures.reading 0) refl in
+    let st = chain_step expression_chain c.loop-e.invariant c.next_term.ensures c.in-Ok.e c.in-Ok.is in
     omega (
       arith,
       st.within,
@@ -170,8 +180,8 @@ expression-overflow_sub-n t c =
 
 pub expression-push_row-requires : goal.expression-push_row-requires
 expression-push_row-requires t c =
-    let s1 = stepped term_solid c.in-Got.d c.requires.ready.within (c.expression_term-f.ensures.reading 0) c.in-Got.is in
-    let st = chain_step expression_chain c.loop-e.invariant c.next_term-g.ensures c.in-Got-g.e c.in-Got-g.is in (
+    let s1 = stepped term_solid c.in_ok-d.d c.requires.ready.within (c.in_ok-d.ensures.reading 0) refl in
+    let st = chain_step expression_chain c.loop-e.invariant c.next_term.ensures c.in-Ok.e c.in-Ok.is in (
       omega (
         arith,
         st.within,
@@ -187,7 +197,6 @@ expression-push_row-requires t c =
         c.requires.ready.small,
         c.requires.skips.within,
       ),
-      omega arith,
       omega (
         arith,
         st.within,
@@ -251,10 +260,10 @@ expression-push_row-requires t c =
       omega arith,
     )
 
-pub expression-overflow_add-count : goal.expression-overflow_add-count
-expression-overflow_add-count t c =
-    let s1 = stepped term_solid c.in-Got.d c.requires.ready.within (c.expression_term-f.ensures.reading 0) c.in-Got.is in
-    let st = chain_step expression_chain c.loop-e.invariant c.next_term-g.ensures c.in-Got-g.e c.in-Got-g.is in
+pub expression-overflow_add-d : goal.expression-overflow_add-d
+expression-overflow_add-d t c =
+    let s1 = stepped term_solid c.in_ok-d.d c.requires.ready.within (c.in_ok-d.ensures.reading 0) refl in
+    let st = chain_step expression_chain c.loop-e.invariant c.next_term.ensures c.in-Ok.e c.in-Ok.is in
     omega (
       arith,
       st.within,
@@ -273,36 +282,37 @@ expression-overflow_add-count t c =
 
 pub expression-loop-e-smaller : goal.expression-loop-e-smaller
 expression-loop-e-smaller t c =
-    let s1 = stepped term_solid c.in-Got.d c.requires.ready.within (c.expression_term-f.ensures.reading 0) c.in-Got.is in
-    let st = chain_step expression_chain c.loop-e.invariant c.next_term-g.ensures c.in-Got-g.e c.in-Got-g.is in
+    let s1 = stepped term_solid c.in_ok-d.d c.requires.ready.within (c.in_ok-d.ensures.reading 0) refl in
+    let st = chain_step expression_chain c.loop-e.invariant c.next_term.ensures c.in-Ok.e c.in-Ok.is in
     omega (arith, st.on, st.within)
 
 pub expression-loop-e-preserved : goal.expression-loop-e-preserved
 expression-loop-e-preserved t c =
-    let s1 = stepped term_solid c.in-Got.d c.requires.ready.within (c.expression_term-f.ensures.reading 0) c.in-Got.is in
-    let st = chain_step expression_chain c.loop-e.invariant c.next_term-g.ensures c.in-Got-g.e c.in-Got-g.is in
-    chain_more expression_chain c.loop-e.invariant c.next_term-g.ensures expression_pair c.in-Got-g.e c.in-Got-g.is _
-    (omega (arith, st.grown, c.loop-e.invariant.grown)) c.next_term-g.auto.rows c.push_row.ensures c.push_row.auto.rows
+    let s1 = stepped term_solid c.in_ok-d.d c.requires.ready.within (c.in_ok-d.ensures.reading 0) refl in
+    let st = chain_step expression_chain c.loop-e.invariant c.next_term.ensures c.in-Ok.e c.in-Ok.is in
+    chain_more expression_chain c.loop-e.invariant c.next_term.ensures expression_pair c.in-Ok.e c.in-Ok.is _
+    (omega (arith, st.grown, c.loop-e.invariant.grown)) c.next_term.auto.rows c.push_row.ensures c.push_row.auto.rows
 
-pub expression-returns-in-Miss : goal.expression-returns-in-Miss
-expression-returns-in-Miss t c =
-    expression_got c.requires.skips c.in-Got.d c.in-Got.is c.expression_term-f.ensures
-    (chain_end expression_chain c.loop-e.invariant c.next_term-g.ensures _ c.in-Miss.is)
+pub expression-returns-in-Err-Miss : goal.expression-returns-in-Err-Miss
+expression-returns-in-Err-Miss t c =
+    rw c.in-Err-Miss.met-is
+    (expression_got c.requires.skips c.in_ok-d.d refl c.in_ok-d.ensures
+    (chain_end expression_chain c.loop-e.invariant c.next_term.ensures _ (c.in-Err-Miss.is ∙ ap Err c.in-Err-Miss.field-0-is)))
 
-pub expression-returns-in-Deep : goal.expression-returns-in-Deep
-expression-returns-in-Deep t c =
-    expression_got c.requires.skips c.in-Got.d c.in-Got.is c.expression_term-f.ensures
-    (chain_deep expression_chain c.loop-e.invariant c.next_term-g.ensures c.in-Deep.is)
+pub expression-returns-in-Err-Deep : goal.expression-returns-in-Err-Deep
+expression-returns-in-Err-Deep t c =
+    expression_got c.requires.skips c.in_ok-d.d refl c.in_ok-d.ensures
+    (chain_deep expression_chain c.loop-e.invariant c.next_term.ensures (c.in-Err-Deep.is ∙ ap Err c.in-Err-Deep.field-0-is))
 
-pub expression_factor-expression_factor_inner-f-requires : goal.expression_factor-expression_factor_inner-f-requires
-expression_factor-expression_factor_inner-f-requires t c =
+pub expression_factor-expression_factor_inner-requires : goal.expression_factor-expression_factor_inner-requires
+expression_factor-expression_factor_inner-requires t c =
     (omega arith, (ready_skip c.requires.ready c.requires.skips, skips_again c.requires.skips))
 
 pub expression_factor-around-requires : goal.expression_factor-around-requires
 expression_factor-around-requires t c =
-    let st = stepped inner_solid c.in-Got.d c.requires.skips.within (c.expression_factor_inner-f.ensures.reading 0) c.in-Got.is in
-    around_fits c.requires.ready (ready_step (ready_skip c.requires.ready c.requires.skips) st) (omega (arith, st.grown)) _ c.requires.skips.within 34
-    0 (lit< tt) (lit< tt)
+    let st = stepped inner_solid c.in-Ok.d c.requires.skips.within (c.expression_factor_inner.ensures.reading 0) c.in-Ok.is in
+    around_fits c.requires.ready (ready_step (ready_skip c.requires.ready c.requires.skips) st) (omega (arith, st.grown)) _ c.requires.skips.within
+    0 (lit< tt)
 
 pub expression_factor-signed-requires : goal.expression_factor-signed-requires
 expression_factor-signed-requires t c = (
@@ -310,95 +320,103 @@ expression_factor-signed-requires t c = (
   (
     ready_met c.requires.ready _,
     (
-      factor_skips c.args.c c.requires.skips c.expression_factor_inner-f.ensures _ c.in-Miss.is,
-      factor_missed c.args.c c.requires.skips c.expression_factor_inner-f.ensures _ c.in-Miss.is,
+      factor_skips c.args.c c.requires.skips c.expression_factor_inner.ensures _ (c.in-Err-Miss.is ∙ ap Err c.in-Err-Miss.field-0-is),
+      factor_missed c.args.c c.requires.skips c.expression_factor_inner.ensures _ (c.in-Err-Miss.is ∙ ap Err c.in-Err-Miss.field-0-is),
     ),
   ),
 )
 
-pub expression_factor-returns-in-Got : goal.expression_factor-returns-in-Got
-expression_factor-returns-in-Got t c =
-    let st = stepped inner_solid c.in-Got.d c.requires.skips.within (c.expression_factor_inner-f.ensures.reading 0) c.in-Got.is in
-    factor_got c.args.c c.requires.skips c.expression_factor_inner-f.ensures c.in-Got.d c.in-Got.is (omega (arith, st.grown)) c.around.ensures
+pub expression_factor-returns-in-Ok : goal.expression_factor-returns-in-Ok
+expression_factor-returns-in-Ok t c =
+    let st = stepped inner_solid c.in-Ok.d c.requires.skips.within (c.expression_factor_inner.ensures.reading 0) c.in-Ok.is in
+    factor_got c.args.c c.requires.skips c.expression_factor_inner.ensures c.in-Ok.d c.in-Ok.is (omega (arith, st.grown)) c.around.ensures
 
-pub expression_factor-returns-in-Miss : goal.expression_factor-returns-in-Miss
-expression_factor-returns-in-Miss t c =
-    factor_miss c.args.c c.requires.skips c.expression_factor_inner-f.ensures _ c.in-Miss.is c.signed.ensures
+pub expression_factor-returns-in-Err-Miss : goal.expression_factor-returns-in-Err-Miss
+expression_factor-returns-in-Err-Miss t c =
+    factor_miss c.args.c c.requires.skips c.expression_factor_inner.ensures _ (c.in-Err-Miss.is ∙ ap Err c.in-Err-Miss.field-0-is) c.signed.ensures
 
-pub expression_factor-returns-in-Deep : goal.expression_factor-returns-in-Deep
-expression_factor-returns-in-Deep t c =
-    factor_deep c.args.c c.requires.skips c.expression_factor_inner-f.ensures c.in-Deep.is
+pub expression_factor-returns-in-Err-Deep : goal.expression_factor-returns-in-Err-Deep
+expression_factor-returns-in-Err-Deep t c =
+    factor_deep c.args.c c.requires.skips c.expression_factor_inner.ensures (c.in-Err-Deep.is ∙ ap Err c.in-Err-Deep.field-0-is)
 
 pub expression_factor_inner-returns-in_default : goal.expression_factor_inner-returns-in_default
-expression_factor_inner-returns-in_default t c =
-    inner_first (reads_leaf c.args.left c.number-f.ensures) c.in_default.not-Miss
+expression_factor_inner-returns-in_default t c = inner_first (reads_leaf c.args.left c.in_default.ensures) (λ m e. grind arith)
 
-pub expression_factor_inner-returns-in_default-g : goal.expression_factor_inner-returns-in_default-g
-expression_factor_inner-returns-in_default-g t c =
-    inner_second (reads_leaf c.args.left c.number-f.ensures) _ c.in-Miss.is c.fn_call-g.ensures c.in_default-g.not-Miss
+pub expression_factor_inner-returns-in_default-2 : goal.expression_factor_inner-returns-in_default-2
+expression_factor_inner-returns-in_default-2 t c = inner_first (reads_leaf c.args.left c.number.ensures) (λ m e. grind arith)
+
+pub expression_factor_inner-returns-in_default-fn_call : goal.expression_factor_inner-returns-in_default-fn_call
+expression_factor_inner-returns-in_default-fn_call t c = inner_second (reads_leaf c.args.left c.number.ensures) _ (c.in-Err-Miss.is ∙ ap Err c.in-Err-Miss.field-0-is) c.in_default-fn_call.ensures (λ m e. grind arith)
+
+pub expression_factor_inner-returns-in_default-fn_call-2 : goal.expression_factor_inner-returns-in_default-fn_call-2
+expression_factor_inner-returns-in_default-fn_call-2 t c = inner_second (reads_leaf c.args.left c.number.ensures) _ (c.in-Err-Miss.is ∙ ap Err c.in-Err-Miss.field-0-is) c.fn_call.ensures (λ m e. grind arith)
 
 pub expression_factor_inner-others-requires : goal.expression_factor_inner-others-requires
 expression_factor_inner-others-requires t c = (
   omega arith,
   (
     ready_met c.requires.ready _,
-    skips_noted c.requires.skips (noted_on (noted_miss (reads_leaf c.args.left c.number-f.ensures) _ c.in-Miss.is) (noted_miss c.fn_call-g.ensures _ c.in-Miss-g.is)),
+    skips_noted c.requires.skips (noted_on (noted_miss (reads_leaf c.args.left c.number.ensures) _ (c.in-Err-Miss.is ∙ ap Err c.in-Err-Miss.field-0-is)) (noted_miss c.fn_call.ensures _ (c.in-Err-Miss-fn_call.is ∙ ap Err c.in-Err-Miss-fn_call.field-0-is))),
   ),
 )
 
 pub expression_factor_inner-returns : goal.expression_factor_inner-returns
 expression_factor_inner-returns t c =
-    inner_third (reads_leaf c.args.left c.number-f.ensures) _ c.in-Miss.is c.fn_call-g.ensures _ c.in-Miss-g.is c.others.ensures
+    inner_third (reads_leaf c.args.left c.number.ensures) _ (c.in-Err-Miss.is ∙ ap Err c.in-Err-Miss.field-0-is) c.fn_call.ensures _ (c.in-Err-Miss-fn_call.is ∙ ap Err c.in-Err-Miss-fn_call.field-0-is) c.others.ensures
 
-pub expression_parens-returns-in_default : goal.expression_parens-returns-in_default
-expression_parens-returns-in_default t c =
-    parens_out c.args.c c.requires.ready.within c.args.left (c.char-f.ensures.leafs trivia c.requires.skips) c.in_default.not-Got
+pub expression_parens-returns-in_err-d : goal.expression_parens-returns-in_err-d
+expression_parens-returns-in_err-d t c =
+    let p = err_from_is_err_and c.from_residual.result c.from_residual.ensures.1 in
+    rw (p.1, p.2) (parens_out c.args.c c.requires.ready.within c.args.left (c.in_err-d.ensures.leafs trivia c.requires.skips) refl)
 
 pub expression_parens-returns-then-left-eq0 : goal.expression_parens-returns-then-left-eq0
 expression_parens-returns-then-left-eq0 t c =
-    parens_none c.args.c c.requires.ready.within c.args.left (c.char-f.ensures.leafs trivia c.requires.skips) c.in-Got.d c.in-Got.is c.if-left-eq0.true
+    parens_none c.args.c c.requires.ready.within c.args.left (c.in_ok-d.ensures.leafs trivia c.requires.skips) c.in_ok-d.d refl c.if-left-eq0.true
 
-pub expression_parens-closed-g-requires : goal.expression_parens-closed-g-requires
-expression_parens-closed-g-requires t c =
-    let s1 = stepped (mark_solid 40) c.in-Got.d c.requires.ready.within ((c.char-f.ensures.leafs trivia c.requires.skips).reading 0 0) c.in-Got.is in
+pub expression_parens-closed-requires : goal.expression_parens-closed-requires
+expression_parens-closed-requires t c =
+    let s1 = stepped (mark_solid 40) c.in_ok-d.d c.requires.ready.within ((c.in_ok-d.ensures.leafs trivia c.requires.skips).reading 0 0) refl in
     (omega arith, (ready_step c.requires.ready s1, omega (arith, s1.on)))
 
-pub expression_parens-returns-in_default-g : goal.expression_parens-returns-in_default-g
-expression_parens-returns-in_default-g t c =
-    parens_miss c.args.c c.requires.ready.within c.args.left (c.char-f.ensures.leafs trivia c.requires.skips) c.in-Got.d c.in-Got.is
-    c.if-left-eq0.false c.closed-g.ensures c.in_default-g.not-Got
+pub expression_parens-returns-in_err-e : goal.expression_parens-returns-in_err-e
+expression_parens-returns-in_err-e t c =
+    let p = err_from_is_err_and c.from_residual-in_err-e.result c.from_residual-in_err-e.ensures.1 in
+    rw (p.1, p.2) (parens_miss c.args.c c.requires.ready.within c.args.left (c.in_ok-d.ensures.leafs trivia c.requires.skips) c.in_ok-d.d refl
+    c.if-left-eq0.false c.in_err-e.ensures refl)
 
 pub expression_parens-around-requires : goal.expression_parens-around-requires
 expression_parens-around-requires t c =
-    let s1 = stepped (mark_solid 40) c.in-Got.d c.requires.ready.within ((c.char-f.ensures.leafs trivia c.requires.skips).reading 0 0) c.in-Got.is in
-    let s2 = stepped closed_solid c.in-Got-g.e s1.within (c.closed-g.ensures.reading 0) c.in-Got-g.is in
-    around_fits c.requires.ready (ready_step (ready_step c.requires.ready s1) s2) (omega (arith, s1.grown, s2.grown)) _ c.requires.ready.within 36 0
-    (lit< tt) (lit< tt)
+    let s1 = stepped (mark_solid 40) c.in_ok-d.d c.requires.ready.within ((c.in_ok-d.ensures.leafs trivia c.requires.skips).reading 0 0) refl in
+    let s2 = stepped closed_solid c.in_ok-e.e s1.within (c.in_ok-e.ensures.reading 0) refl in
+    around_fits c.requires.ready (ready_step (ready_step c.requires.ready s1) s2) (omega (arith, s1.grown, s2.grown)) _ c.requires.ready.within 0
+    (lit< tt)
 
 pub expression_parens-returns : goal.expression_parens-returns
 expression_parens-returns t c =
-    let s1 = stepped (mark_solid 40) c.in-Got.d c.requires.ready.within ((c.char-f.ensures.leafs trivia c.requires.skips).reading 0 0) c.in-Got.is in
-    let s2 = stepped closed_solid c.in-Got-g.e s1.within (c.closed-g.ensures.reading 0) c.in-Got-g.is in
-    parens_got c.args.c c.requires.ready.within c.args.left (c.char-f.ensures.leafs trivia c.requires.skips) c.in-Got.d c.in-Got.is
-    c.if-left-eq0.false c.closed-g.ensures c.in-Got-g.e c.in-Got-g.is (omega (arith, s1.grown, s2.grown)) c.around.ensures
+    let s1 = stepped (mark_solid 40) c.in_ok-d.d c.requires.ready.within ((c.in_ok-d.ensures.leafs trivia c.requires.skips).reading 0 0) refl in
+    let s2 = stepped closed_solid c.in_ok-e.e s1.within (c.in_ok-e.ensures.reading 0) refl in
+    parens_got c.args.c c.requires.ready.within c.args.left (c.in_ok-d.ensures.leafs trivia c.requires.skips) c.in_ok-d.d refl
+    c.if-left-eq0.false c.in_ok-e.ensures c.in_ok-e.e refl (omega (arith, s1.grown, s2.grown)) c.around.ensures
 
-pub expression_term-returns-in_default : goal.expression_term-returns-in_default
-expression_term-returns-in_default t c = term_out c.expression_factor-f.ensures c.in_default.not-Got
+pub expression_term-returns-in_err-d : goal.expression_term-returns-in_err-d
+expression_term-returns-in_err-d t c =
+    let p = err_from_is_err_and c.from_residual.result c.from_residual.ensures.1 in
+    rw (p.1, p.2) (term_out c.in_err-d.ensures refl)
 
 pub expression_term-loop-e-init : goal.expression_term-loop-e-init
 expression_term-loop-e-init t c =
-    let s1 = stepped factor_solid c.in-Got.d c.requires.ready.within (c.expression_factor-f.ensures.reading 0) c.in-Got.is in
+    let s1 = stepped factor_solid c.in_ok-d.d c.requires.ready.within (c.in_ok-d.ensures.reading 0) refl in
     chained_none _ _ _ _ _ _ _ _ _ _ s1.within s1.grown
 
-pub expression_term-next_factor-g-requires : goal.expression_term-next_factor-g-requires
-expression_term-next_factor-g-requires t c =
-    let s1 = stepped factor_solid c.in-Got.d c.requires.ready.within (c.expression_factor-f.ensures.reading 0) c.in-Got.is in
+pub expression_term-next_factor-requires : goal.expression_term-next_factor-requires
+expression_term-next_factor-requires t c =
+    let s1 = stepped factor_solid c.in_ok-d.d c.requires.ready.within (c.in_ok-d.ensures.reading 0) refl in
     (omega arith, progress_ready c.loop-e.invariant.progress (ready_step c.requires.ready s1))
 
 pub expression_term-overflow_add-n : goal.expression_term-overflow_add-n
 expression_term-overflow_add-n t c =
-    let s1 = stepped factor_solid c.in-Got.d c.requires.ready.within (c.expression_factor-f.ensures.reading 0) c.in-Got.is in
-    let st = chain_step term_chain c.loop-e.invariant c.next_factor-g.ensures c.in-Got-g.e c.in-Got-g.is in
+    let s1 = stepped factor_solid c.in_ok-d.d c.requires.ready.within (c.in_ok-d.ensures.reading 0) refl in
+    let st = chain_step term_chain c.loop-e.invariant c.next_factor.ensures c.in-Ok.e c.in-Ok.is in
     omega (
       arith,
       st.within,
@@ -417,8 +435,8 @@ expression_term-overflow_add-n t c =
 
 pub expression_term-overflow_sub-n : goal.expression_term-overflow_sub-n
 expression_term-overflow_sub-n t c =
-    let s1 = stepped factor_solid c.in-Got.d c.requires.ready.within (c.expression_factor-f.ensures.reading 0) c.in-Got.is in
-    let st = chain_step term_chain c.loop-e.invariant c.next_factor-g.ensures c.in-Got-g.e c.in-Got-g.is in
+    let s1 = stepped factor_solid c.in_ok-d.d c.requires.ready.within (c.in_ok-d.ensures.reading 0) refl in
+    let st = chain_step term_chain c.loop-e.invariant c.next_factor.ensures c.in-Ok.e c.in-Ok.is in
     omega (
       arith,
       st.within,
@@ -437,8 +455,8 @@ expression_term-overflow_sub-n t c =
 
 pub expression_term-push_row-requires : goal.expression_term-push_row-requires
 expression_term-push_row-requires t c =
-    let s1 = stepped factor_solid c.in-Got.d c.requires.ready.within (c.expression_factor-f.ensures.reading 0) c.in-Got.is in
-    let st = chain_step term_chain c.loop-e.invariant c.next_factor-g.ensures c.in-Got-g.e c.in-Got-g.is in (
+    let s1 = stepped factor_solid c.in_ok-d.d c.requires.ready.within (c.in_ok-d.ensures.reading 0) refl in
+    let st = chain_step term_chain c.loop-e.invariant c.next_factor.ensures c.in-Ok.e c.in-Ok.is in (
       omega (
         arith,
         st.within,
@@ -454,7 +472,6 @@ expression_term-push_row-requires t c =
         c.requires.ready.small,
         c.requires.skips.within,
       ),
-      omega arith,
       omega (
         arith,
         st.within,
@@ -518,10 +535,10 @@ expression_term-push_row-requires t c =
       omega arith,
     )
 
-pub expression_term-overflow_add-count : goal.expression_term-overflow_add-count
-expression_term-overflow_add-count t c =
-    let s1 = stepped factor_solid c.in-Got.d c.requires.ready.within (c.expression_factor-f.ensures.reading 0) c.in-Got.is in
-    let st = chain_step term_chain c.loop-e.invariant c.next_factor-g.ensures c.in-Got-g.e c.in-Got-g.is in
+pub expression_term-overflow_add-d : goal.expression_term-overflow_add-d
+expression_term-overflow_add-d t c =
+    let s1 = stepped factor_solid c.in_ok-d.d c.requires.ready.within (c.in_ok-d.ensures.reading 0) refl in
+    let st = chain_step term_chain c.loop-e.invariant c.next_factor.ensures c.in-Ok.e c.in-Ok.is in
     omega (
       arith,
       st.within,
@@ -540,142 +557,156 @@ expression_term-overflow_add-count t c =
 
 pub expression_term-loop-e-smaller : goal.expression_term-loop-e-smaller
 expression_term-loop-e-smaller t c =
-    let s1 = stepped factor_solid c.in-Got.d c.requires.ready.within (c.expression_factor-f.ensures.reading 0) c.in-Got.is in
-    let st = chain_step term_chain c.loop-e.invariant c.next_factor-g.ensures c.in-Got-g.e c.in-Got-g.is in
+    let s1 = stepped factor_solid c.in_ok-d.d c.requires.ready.within (c.in_ok-d.ensures.reading 0) refl in
+    let st = chain_step term_chain c.loop-e.invariant c.next_factor.ensures c.in-Ok.e c.in-Ok.is in
     omega (arith, st.on, st.within)
 
 pub expression_term-loop-e-preserved : goal.expression_term-loop-e-preserved
 expression_term-loop-e-preserved t c =
-    let s1 = stepped factor_solid c.in-Got.d c.requires.ready.within (c.expression_factor-f.ensures.reading 0) c.in-Got.is in
-    let st = chain_step term_chain c.loop-e.invariant c.next_factor-g.ensures c.in-Got-g.e c.in-Got-g.is in
-    chain_more term_chain c.loop-e.invariant c.next_factor-g.ensures term_pair c.in-Got-g.e c.in-Got-g.is _
-    (omega (arith, st.grown, c.loop-e.invariant.grown)) c.next_factor-g.auto.rows c.push_row.ensures c.push_row.auto.rows
+    let s1 = stepped factor_solid c.in_ok-d.d c.requires.ready.within (c.in_ok-d.ensures.reading 0) refl in
+    let st = chain_step term_chain c.loop-e.invariant c.next_factor.ensures c.in-Ok.e c.in-Ok.is in
+    chain_more term_chain c.loop-e.invariant c.next_factor.ensures term_pair c.in-Ok.e c.in-Ok.is _
+    (omega (arith, st.grown, c.loop-e.invariant.grown)) c.next_factor.auto.rows c.push_row.ensures c.push_row.auto.rows
 
-pub expression_term-returns-in-Miss : goal.expression_term-returns-in-Miss
-expression_term-returns-in-Miss t c =
-    term_got c.requires.skips c.in-Got.d c.in-Got.is c.expression_factor-f.ensures
-    (chain_end term_chain c.loop-e.invariant c.next_factor-g.ensures _ c.in-Miss.is)
+pub expression_term-returns-in-Err-Miss : goal.expression_term-returns-in-Err-Miss
+expression_term-returns-in-Err-Miss t c =
+    rw c.in-Err-Miss.met-is
+    (term_got c.requires.skips c.in_ok-d.d refl c.in_ok-d.ensures
+    (chain_end term_chain c.loop-e.invariant c.next_factor.ensures _ (c.in-Err-Miss.is ∙ ap Err c.in-Err-Miss.field-0-is)))
 
-pub expression_term-returns-in-Deep : goal.expression_term-returns-in-Deep
-expression_term-returns-in-Deep t c =
-    term_got c.requires.skips c.in-Got.d c.in-Got.is c.expression_factor-f.ensures
-    (chain_deep term_chain c.loop-e.invariant c.next_factor-g.ensures c.in-Deep.is)
+pub expression_term-returns-in-Err-Deep : goal.expression_term-returns-in-Err-Deep
+expression_term-returns-in-Err-Deep t c =
+    term_got c.requires.skips c.in_ok-d.d refl c.in_ok-d.ensures
+    (chain_deep term_chain c.loop-e.invariant c.next_factor.ensures (c.in-Err-Deep.is ∙ ap Err c.in-Err-Deep.field-0-is))
 
-pub fn_call-returns-in_default : goal.fn_call-returns-in_default
-fn_call-returns-in_default t c =
-    call_out c.args.c c.requires.within c.args.left (mname_is (c.name-f.ensures.leafs multiline_trivia c.multiline_trivia-k.ensures)) c.in_default.not-Got
+pub fn_call-returns-in_err-d : goal.fn_call-returns-in_err-d
+fn_call-returns-in_err-d t c =
+    let p = err_from_is_err_and c.from_residual.result c.from_residual.ensures.1 in
+    rw (p.1, p.2) (call_out c.args.c c.requires.within c.args.left (mname_is (c.in_err-d.ensures.leafs multiline_trivia c.multiline_trivia-k.ensures)) refl)
 
-pub fn_call-call_parens-g-requires : goal.fn_call-call_parens-g-requires
-fn_call-call_parens-g-requires t c =
-    let s1 = stepped name_solid c.in-Got.d c.requires.within
-    ((mname_is (c.name-f.ensures.leafs multiline_trivia c.multiline_trivia-k.ensures)).reading 0 0) c.in-Got.is in
+pub fn_call-call_parens-requires : goal.fn_call-call_parens-requires
+fn_call-call_parens-requires t c =
+    let s1 = stepped name_solid c.in_ok-d.d c.requires.within
+    ((mname_is (c.in_ok-d.ensures.leafs multiline_trivia c.multiline_trivia-k.ensures)).reading 0 0) refl in
     (omega arith, ready_step c.requires s1)
 
-pub fn_call-returns-in_default-g : goal.fn_call-returns-in_default-g
-fn_call-returns-in_default-g t c =
-    call_bare c.args.c c.requires.within c.args.left (mname_is (c.name-f.ensures.leafs multiline_trivia c.multiline_trivia-k.ensures)) c.in-Got.d
-    c.in-Got.is c.call_parens-g.ensures c.in_default-g.not-Got
+pub fn_call-returns-in_err-e : goal.fn_call-returns-in_err-e
+fn_call-returns-in_err-e t c =
+    let p = err_from_is_err_and c.from_residual-in_err-e.result c.from_residual-in_err-e.ensures.1 in
+    rw (p.1, p.2) (call_bare c.args.c c.requires.within c.args.left (mname_is (c.in_ok-d.ensures.leafs multiline_trivia c.multiline_trivia-k.ensures)) c.in_ok-d.d
+    refl c.in_err-e.ensures refl)
 
 pub fn_call-around-requires : goal.fn_call-around-requires
 fn_call-around-requires t c =
-    let s1 = stepped name_solid c.in-Got.d c.requires.within
-    ((mname_is (c.name-f.ensures.leafs multiline_trivia c.multiline_trivia-k.ensures)).reading 0 0) c.in-Got.is in
-    let s2 = stepped parens_solid c.in-Got-g.e s1.within (c.call_parens-g.ensures.reading 0) c.in-Got-g.is in
-    around_fits c.requires (ready_step (ready_step c.requires s1) s2) (omega (arith, s1.grown, s2.grown)) _ c.requires.within 37 0 (lit< tt) (lit< tt)
+    let s1 = stepped name_solid c.in_ok-d.d c.requires.within
+    ((mname_is (c.in_ok-d.ensures.leafs multiline_trivia c.multiline_trivia-k.ensures)).reading 0 0) refl in
+    let s2 = stepped parens_solid c.in_ok-e.e s1.within (c.in_ok-e.ensures.reading 0) refl in
+    around_fits c.requires (ready_step (ready_step c.requires s1) s2) (omega (arith, s1.grown, s2.grown)) _ c.requires.within 0 (lit< tt)
 
 pub fn_call-returns : goal.fn_call-returns
 fn_call-returns t c =
-    let s1 = stepped name_solid c.in-Got.d c.requires.within
-    ((mname_is (c.name-f.ensures.leafs multiline_trivia c.multiline_trivia-k.ensures)).reading 0 0) c.in-Got.is in
-    let s2 = stepped parens_solid c.in-Got-g.e s1.within (c.call_parens-g.ensures.reading 0) c.in-Got-g.is in
-    call_got c.args.c c.requires.within c.args.left (mname_is (c.name-f.ensures.leafs multiline_trivia c.multiline_trivia-k.ensures)) c.in-Got.d
-    c.in-Got.is c.call_parens-g.ensures c.in-Got-g.e c.in-Got-g.is (omega (arith, s1.grown, s2.grown)) c.around.ensures
+    let s1 = stepped name_solid c.in_ok-d.d c.requires.within
+    ((mname_is (c.in_ok-d.ensures.leafs multiline_trivia c.multiline_trivia-k.ensures)).reading 0 0) refl in
+    let s2 = stepped parens_solid c.in_ok-e.e s1.within (c.in_ok-e.ensures.reading 0) refl in
+    call_got c.args.c c.requires.within c.args.left (mname_is (c.in_ok-d.ensures.leafs multiline_trivia c.multiline_trivia-k.ensures)) c.in_ok-d.d
+    refl c.in_ok-e.ensures c.in_ok-e.e refl (omega (arith, s1.grown, s2.grown)) c.around.ensures
 
-pub next_factor-returns-in_default : goal.next_factor-returns-in_default
-next_factor-returns-in_default t c =
-    then_out (reads_leaf c.args.left c.term_operator-f.ensures) factorᵍ c.in_default.not-Got
+pub next_factor-returns-in_err-d : goal.next_factor-returns-in_err-d
+next_factor-returns-in_err-d t c =
+    let p = err_from_is_err_and c.from_residual.result c.from_residual.ensures.1 in
+    rw (p.1, p.2) (then_out (reads_leaf c.args.left c.in_err-d.ensures) factorᵍ refl)
 
 pub next_factor-trivia-k-requires : goal.next_factor-trivia-k-requires
 next_factor-trivia-k-requires t c =
-    let st = stepped term_operator_solid c.in-Got.d c.requires.within (c.term_operator-f.ensures.reading 0 0) c.in-Got.is in
+    let st = stepped term_operator_solid c.in_ok-d.d c.requires.within (c.in_ok-d.ensures.reading 0 0) refl in
     st.within
 
 pub next_factor-expression_factor-requires : goal.next_factor-expression_factor-requires
 next_factor-expression_factor-requires t c =
-    let st = stepped term_operator_solid c.in-Got.d c.requires.within (c.term_operator-f.ensures.reading 0 0) c.in-Got.is in
+    let st = stepped term_operator_solid c.in_ok-d.d c.requires.within (c.in_ok-d.ensures.reading 0 0) refl in
     (omega arith, (ready_step c.requires st, c.trivia-k.ensures))
 
 pub next_factor-returns : goal.next_factor-returns
 next_factor-returns t c =
-    then_got (reads_leaf c.args.left c.term_operator-f.ensures) factorᵍ term_operator_solid.quieted c.in-Got.d c.in-Got.is c.expression_factor.ensures
+    then_got (reads_leaf c.args.left c.in_ok-d.ensures) factorᵍ term_operator_solid.quieted c.in_ok-d.d refl c.expression_factor.ensures
 
-pub next_term-returns-in_default : goal.next_term-returns-in_default
-next_term-returns-in_default t c =
-    then_out (reads_leaf c.args.left c.expression_operator-f.ensures) termᵍ c.in_default.not-Got
+pub next_term-returns-in_err-d : goal.next_term-returns-in_err-d
+next_term-returns-in_err-d t c =
+    let p = err_from_is_err_and c.from_residual.result c.from_residual.ensures.1 in
+    rw (p.1, p.2) (then_out (reads_leaf c.args.left c.in_err-d.ensures) termᵍ refl)
 
 pub next_term-trivia-k-requires : goal.next_term-trivia-k-requires
 next_term-trivia-k-requires t c =
-    let st = stepped expression_operator_solid c.in-Got.d c.requires.within (c.expression_operator-f.ensures.reading 0 0) c.in-Got.is in
+    let st = stepped expression_operator_solid c.in_ok-d.d c.requires.within (c.in_ok-d.ensures.reading 0 0) refl in
     st.within
 
 pub next_term-expression_term-requires : goal.next_term-expression_term-requires
 next_term-expression_term-requires t c =
-    let st = stepped expression_operator_solid c.in-Got.d c.requires.within (c.expression_operator-f.ensures.reading 0 0) c.in-Got.is in
+    let st = stepped expression_operator_solid c.in_ok-d.d c.requires.within (c.in_ok-d.ensures.reading 0 0) refl in
     (omega arith, (ready_step c.requires st, c.trivia-k.ensures))
 
 pub next_term-returns : goal.next_term-returns
 next_term-returns t c =
-    then_got (reads_leaf c.args.left c.expression_operator-f.ensures) termᵍ expression_operator_solid.quieted c.in-Got.d c.in-Got.is c.expression_term.ensures
+    then_got (reads_leaf c.args.left c.in_ok-d.ensures) termᵍ expression_operator_solid.quieted c.in_ok-d.d refl c.expression_term.ensures
 
 pub others-returns-in_default : goal.others-returns-in_default
-others-returns-in_default t c =
-    else_first (reads_leaf c.args.left c.identifier_value-f.ensures) _ c.in_default.not-Miss
+others-returns-in_default t c = else_first (reads_leaf c.args.left c.in_default.ensures) _ (λ m e. grind arith)
 
-pub others-current_pc-g-requires-clause-skips : goal.others-current_pc-g-requires-clause-skips
-others-current_pc-g-requires-clause-skips t c = skips_noted c.requires.skips (noted_miss (reads_leaf c.args.left c.identifier_value-f.ensures) _ c.in-Miss.is)
+pub others-returns-in_default-2 : goal.others-returns-in_default-2
+others-returns-in_default-2 t c = else_first (reads_leaf c.args.left c.identifier_value.ensures) _ (λ m e. grind arith)
 
-pub others-returns-in_default-g : goal.others-returns-in_default-g
-others-returns-in_default-g t c =
-    else_miss (reads_leaf c.args.left c.identifier_value-f.ensures) _ _ c.in-Miss.is
-    (else_first (reads_leaf c.args.left c.current_pc-g.ensures) _ c.in_default-g.not-Miss)
+pub others-current_pc-requires-clause-skips : goal.others-current_pc-requires-clause-skips
+others-current_pc-requires-clause-skips t c = skips_noted c.requires.skips (noted_miss (reads_leaf c.args.left c.identifier_value.ensures) _ (c.in-Err-Miss.is ∙ ap Err c.in-Err-Miss.field-0-is))
 
-pub others-expression_parens-h-requires : goal.others-expression_parens-h-requires
-others-expression_parens-h-requires t c =
-    let first = noted_miss (reads_leaf c.args.left c.identifier_value-f.ensures) _ c.in-Miss.is in
-    let second = noted_miss (reads_leaf c.args.left c.current_pc-g.ensures) _ c.in-Miss-g.is in
+pub others-returns-in_default-current_pc : goal.others-returns-in_default-current_pc
+others-returns-in_default-current_pc t c = else_miss (reads_leaf c.args.left c.identifier_value.ensures) _ _ (c.in-Err-Miss.is ∙ ap Err c.in-Err-Miss.field-0-is)
+    (else_first (reads_leaf c.args.left c.in_default-current_pc.ensures) _ (λ m e. grind arith))
+
+pub others-returns-in_default-current_pc-2 : goal.others-returns-in_default-current_pc-2
+others-returns-in_default-current_pc-2 t c = else_miss (reads_leaf c.args.left c.identifier_value.ensures) _ _ (c.in-Err-Miss.is ∙ ap Err c.in-Err-Miss.field-0-is)
+    (else_first (reads_leaf c.args.left c.current_pc.ensures) _ (λ m e. grind arith))
+
+pub others-expression_parens-requires : goal.others-expression_parens-requires
+others-expression_parens-requires t c =
+    let first = noted_miss (reads_leaf c.args.left c.identifier_value.ensures) _ (c.in-Err-Miss.is ∙ ap Err c.in-Err-Miss.field-0-is) in
+    let second = noted_miss (reads_leaf c.args.left c.current_pc.ensures) _ (c.in-Err-Miss-current_pc.is ∙ ap Err c.in-Err-Miss-current_pc.field-0-is) in
     (omega arith, (ready_met c.requires.ready _, skips_noted c.requires.skips (noted_on first second)))
 
-pub others-returns-in_default-h : goal.others-returns-in_default-h
-others-returns-in_default-h t c =
-    else_miss (reads_leaf c.args.left c.identifier_value-f.ensures) _ _ c.in-Miss.is
-    (else_miss (reads_leaf c.args.left c.current_pc-g.ensures) _ _ c.in-Miss-g.is (else_first c.expression_parens-h.ensures _ c.in_default-h.not-Miss))
+pub others-returns-in_default-expression_parens : goal.others-returns-in_default-expression_parens
+others-returns-in_default-expression_parens t c = else_miss (reads_leaf c.args.left c.identifier_value.ensures) _ _ (c.in-Err-Miss.is ∙ ap Err c.in-Err-Miss.field-0-is)
+    (else_miss (reads_leaf c.args.left c.current_pc.ensures) _ _ (c.in-Err-Miss-current_pc.is ∙ ap Err c.in-Err-Miss-current_pc.field-0-is) (else_first c.in_default-expression_parens.ensures _ (λ m e. grind arith)))
+
+pub others-returns-in_default-expression_parens-2 : goal.others-returns-in_default-expression_parens-2
+others-returns-in_default-expression_parens-2 t c = else_miss (reads_leaf c.args.left c.identifier_value.ensures) _ _ (c.in-Err-Miss.is ∙ ap Err c.in-Err-Miss.field-0-is)
+    (else_miss (reads_leaf c.args.left c.current_pc.ensures) _ _ (c.in-Err-Miss-current_pc.is ∙ ap Err c.in-Err-Miss-current_pc.field-0-is) (else_first c.expression_parens.ensures _ (λ m e. grind arith)))
 
 pub others-interpolated_string_factor-requires-clause-skips : goal.others-interpolated_string_factor-requires-clause-skips
 others-interpolated_string_factor-requires-clause-skips t c =
-    let first = noted_miss (reads_leaf c.args.left c.identifier_value-f.ensures) _ c.in-Miss.is in
-    let second = noted_miss (reads_leaf c.args.left c.current_pc-g.ensures) _ c.in-Miss-g.is in
-    skips_noted c.requires.skips (noted_on (noted_on first second) (noted_miss c.expression_parens-h.ensures _ c.in-Miss-h.is))
+    let first = noted_miss (reads_leaf c.args.left c.identifier_value.ensures) _ (c.in-Err-Miss.is ∙ ap Err c.in-Err-Miss.field-0-is) in
+    let second = noted_miss (reads_leaf c.args.left c.current_pc.ensures) _ (c.in-Err-Miss-current_pc.is ∙ ap Err c.in-Err-Miss-current_pc.field-0-is) in
+    skips_noted c.requires.skips (noted_on (noted_on first second) (noted_miss c.expression_parens.ensures _ (c.in-Err-Miss-expression_parens.is ∙ ap Err c.in-Err-Miss-expression_parens.field-0-is)))
 
 pub others-returns : goal.others-returns
 others-returns t c =
-    else_miss (reads_leaf c.args.left c.identifier_value-f.ensures) _ _ c.in-Miss.is
-    (else_miss (reads_leaf c.args.left c.current_pc-g.ensures) _ _ c.in-Miss-g.is
-    (else_miss c.expression_parens-h.ensures _ _ c.in-Miss-h.is (reads_leaf c.args.left c.interpolated_string_factor.ensures)))
+    else_miss (reads_leaf c.args.left c.identifier_value.ensures) _ _ (c.in-Err-Miss.is ∙ ap Err c.in-Err-Miss.field-0-is)
+    (else_miss (reads_leaf c.args.left c.current_pc.ensures) _ _ (c.in-Err-Miss-current_pc.is ∙ ap Err c.in-Err-Miss-current_pc.field-0-is)
+    (else_miss c.expression_parens.ensures _ _ (c.in-Err-Miss-expression_parens.is ∙ ap Err c.in-Err-Miss-expression_parens.field-0-is) (reads_leaf c.args.left c.interpolated_string_factor.ensures)))
 
-pub signed-returns-then-q-count : goal.signed-returns-then-q-count
-signed-returns-then-q-count t c =
-    signed_none c.args.c c.requires.skips c.sign-p.ensures c.sign-q.ensures c.args.left c.requires.missed c.if-q-count.true
+pub signed-returns-then-q-c : goal.signed-returns-then-q-c
+signed-returns-then-q-c t c =
+    signed_none c.args.c c.requires.skips c.sign-p.ensures c.sign-q.ensures c.args.left c.requires.missed c.if-q-c.true
 
-pub signed-returns-in_default : goal.signed-returns-in_default
-signed-returns-in_default t c =
-    signed_out c.args.c c.requires.skips c.sign-p.ensures c.sign-q.ensures c.args.left c.expression_factor_inner-f.ensures c.in_default.not-Got
+pub signed-returns-in_err-d : goal.signed-returns-in_err-d
+signed-returns-in_err-d t c =
+    let p = err_from_is_err_and c.from_residual.result c.from_residual.ensures.1 in
+    rw (p.1, p.2) (signed_out c.args.c c.requires.skips c.sign-p.ensures c.sign-q.ensures c.args.left c.in_err-d.ensures refl)
 
 pub signed-around-requires : goal.signed-around-requires
 signed-around-requires t c =
-    let st = stepped inner_solid c.in-Got.d (c.sign-q.ensures.ready (c.sign-p.ensures.ready (ready_skip c.requires.ready c.requires.skips))).within
-    (c.expression_factor_inner-f.ensures.reading 0) c.in-Got.is in
+    let st = stepped inner_solid c.in_ok-d.d (c.sign-q.ensures.ready (c.sign-p.ensures.ready (ready_skip c.requires.ready c.requires.skips))).within
+    (c.in_ok-d.ensures.reading 0) refl in
     around_fits c.requires.ready (ready_step (c.sign-q.ensures.ready (c.sign-p.ensures.ready (ready_skip c.requires.ready c.requires.skips))) st)
-    (omega (arith, st.grown, c.sign-p.ensures.grown, c.sign-q.ensures.grown)) _ c.requires.skips.within 34 _ (lit< tt)
+    (omega (arith, st.grown, c.sign-p.ensures.grown, c.sign-q.ensures.grown)) _ c.requires.skips.within _
     (omega (
       arith,
       c.sign-p.ensures.grown,
@@ -689,7 +720,7 @@ signed-around-requires t c =
 
 pub signed-returns : goal.signed-returns
 signed-returns t c =
-    let st = stepped inner_solid c.in-Got.d (c.sign-q.ensures.ready (c.sign-p.ensures.ready (ready_skip c.requires.ready c.requires.skips))).within
-    (c.expression_factor_inner-f.ensures.reading 0) c.in-Got.is in
-    signed_got c.args.c c.requires.skips c.sign-p.ensures c.sign-q.ensures c.args.left c.expression_factor_inner-f.ensures c.in-Got.d c.in-Got.is
+    let st = stepped inner_solid c.in_ok-d.d (c.sign-q.ensures.ready (c.sign-p.ensures.ready (ready_skip c.requires.ready c.requires.skips))).within
+    (c.in_ok-d.ensures.reading 0) refl in
+    signed_got c.args.c c.requires.skips c.sign-p.ensures c.sign-q.ensures c.args.left c.in_ok-d.ensures c.in_ok-d.d refl
     (omega (arith, st.grown, c.sign-p.ensures.grown, c.sign-q.ensures.grown)) c.around.ensures

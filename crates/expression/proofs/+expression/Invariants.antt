@@ -50,22 +50,22 @@ decreases-others l = l.left * 16 + 1
 abbrev pub decreases-signed : goal.decreases-signed
 decreases-signed l = l.left * 16 + 3
 
-abbrev pub invariant-arguments-loop-d : goal.invariant-arguments-loop-d
-invariant-arguments-loop-d l = Listed expression_arg (markᵍ 44) l.s l.left l.initial.at l.initial.count l.initial.met l.initial.rows l.at l.count l.met l.rows
+abbrev pub invariant-arguments-loop-last : goal.invariant-arguments-loop-last
+invariant-arguments-loop-last l = Listed expression_arg (markᵍ 44) l.s l.left l.initial.next.at.0 l.initial.next.count.0 l.initial.next.met l.initial.rows l.next.at.0 l.next.count.0 l.next.met l.rows
 
-abbrev pub decreases-arguments-loop-d : goal.decreases-arguments-loop-d
-decreases-arguments-loop-d l = length l.s - l.at
+abbrev pub decreases-arguments-loop-last : goal.decreases-arguments-loop-last
+decreases-arguments-loop-last l = length l.s - l.next.at.0
 
 abbrev pub invariant-expression-loop-e : goal.invariant-expression-loop-e
 invariant-expression-loop-e l =
-    Chained expression_operator termᵍ l.s l.base l.low l.left l.initial.at l.initial.count l.initial.met l.initial.rows l.at l.count l.met l.rows
+    Chained expression_operator termᵍ l.s l.c.count.0 l.k.at.0 l.left l.initial.d.at.0 l.initial.d.count.0 l.initial.d.met l.initial.rows l.d.at.0 l.d.count.0 l.d.met l.rows
 
 abbrev pub decreases-expression-loop-e : goal.decreases-expression-loop-e
-decreases-expression-loop-e l = length l.s - l.at
+decreases-expression-loop-e l = length l.s - l.d.at.0
 
 abbrev pub invariant-expression_term-loop-e : goal.invariant-expression_term-loop-e
 invariant-expression_term-loop-e l =
-    Chained term_operator factorᵍ l.s l.base l.low l.left l.initial.at l.initial.count l.initial.met l.initial.rows l.at l.count l.met l.rows
+    Chained term_operator factorᵍ l.s l.c.count.0 l.k.at.0 l.left l.initial.d.at.0 l.initial.d.count.0 l.initial.d.met l.initial.rows l.d.at.0 l.d.count.0 l.d.met l.rows
 
 abbrev pub decreases-expression_term-loop-e : goal.decreases-expression_term-loop-e
-decreases-expression_term-loop-e l = length l.s - l.at
+decreases-expression_term-loop-e l = length l.s - l.d.at.0
