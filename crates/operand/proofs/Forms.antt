@@ -18,9 +18,8 @@ use Rattle.cursor.specs.Text.{here, cursor, skip, Skips}
 use Rattle.cursor.specs.Agree.{full, Reads, Leafs}
 use Rattle.cursor.specs.declared.Cursor.{Cursor}
 use Rattle.cursor.specs.declared.Skip.{Skip}
-use Rattle.cursor.specs.declared.Read.{Read}
-use Rattle.cursor.specs.declared.Read.TheVariants.{Got, Miss, Deep}
-use Rattle.cursor.proofs.Agree.{found, found_here, lost, got_miss, got_deep, miss_deep}
+use Rattle.cursor.specs.Read.{Read}
+use Rattle.cursor.proofs.Agree.{found, found_here, lost, got_miss, miss_deep, got_err}
 use Rattle.cursor.proofs.Lows.{low_first, low_node, first_bracket}
 use Rattle.cursor.proofs.Places.{leaf_no}
 use Rattle.cursor.proofs.Laws.{lies, reads_leaf, leaf_deep, reading_is, seq_out, seq_got, never_miss, flat_no}
@@ -34,21 +33,23 @@ use Rattle.operand.specs.Finish.{Finished}
 use Rattle.operand.proofs.Facts.{opened_solid, closing_quiet, closed_quiet, trying_quiet, tried_quiet}
 use Rattle.operand.proofs.Paren.{fits_fails, tried, expression_fails, closing_fails}
 use Rattle.operand.proofs.Steps.{skips_kept, over_misses, over_lacks, over_done, reads_empty, bracket_misses, behind_misses, behind_goes}
+use Rattle.cursor.specs.declared.Stop.TheVariants.{Miss, Deep}
+use Rattle.std.specs.Prelude.{Ok, Err, IsErr, is_err}
 
 -- Immediate ------------------------------------------------------------------
 
 module _ {s : List ℕ} {c : Cursor} (left : ℕ) {t t₁ : List ℕ} {r₁ : Read} (a : Leafs (char "#") s c t t₁ r₁) where
-  pub imm_misses : ((d : Cursor) → r₁ ≡ Got d → ⊥) → Reads am_imm s c left t t₁ r₁
+  pub imm_misses : IsErr r₁ → Reads am_imm s c left t t₁ r₁
   unfolding am_imm
   imm_misses h = over_misses operandᵏ 2 expression (reads_leaf left a) h
 
-  module _ (d : Cursor) (e : r₁ ≡ Got d) {t₂ : List ℕ} {r₂ : Read} (b : Reads expression s d left t₁ t₂ r₂) where
-    pub imm_lacks : ((x : Cursor) → r₂ ≡ Got x → ⊥) → Reads am_imm s c left t t₂ r₂
+  module _ (d : Cursor) (e : r₁ ≡ Ok d) {t₂ : List ℕ} {r₂ : Read} (b : Reads expression s d left t₁ t₂ r₂) where
+    pub imm_lacks : IsErr r₂ → Reads am_imm s c left t t₂ r₂
     unfolding am_imm
     imm_lacks h = over_lacks operandᵏ 2 expression (reads_leaf left a) (char_solid false 35).quieted d e b h
 
-    pub imm_done : {k : Skip} → Skips trivia s c.at.0 c.met k → (x : Cursor) → r₂ ≡ Got x → {t' : List ℕ} {z : Cursor}
-        → Finished operandᵏ 2 c k.at.0 x t₂ t' z → Reads am_imm s c left t t' (Got z)
+    pub imm_done : {k : Skip} → Skips trivia s c.at.0 c.met k → (x : Cursor) → r₂ ≡ Ok x → {t' : List ℕ} {z : Cursor}
+        → Finished operandᵏ 2 c k.at.0 x t₂ t' z → Reads am_imm s c left t t' (Ok z)
     unfolding am_imm
     imm_done {k} gap x q f =
         over_done operandᵏ 2 expression (reads_leaf left a) (char_solid false 35).quieted d e b expression_solid.quieted x q k.at.0
@@ -57,42 +58,39 @@ module _ {s : List ℕ} {c : Cursor} (left : ℕ) {t t₁ : List ℕ} {r₁ : Re
 -- Plain ----------------------------------------------------------------------
 
 module _ {s : List ℕ} {c : Cursor} {left : ℕ} {t t₁ : List ℕ} {r₁ : Read} (a : Reads expression s c left t t₁ r₁) where
-  pub abs_misses : ((d : Cursor) → r₁ ≡ Got d → ⊥) → Reads am_abs s c left t t₁ r₁
+  pub abs_misses : IsErr r₁ → Reads am_abs s c left t t₁ r₁
   unfolding am_abs
   abs_misses h = over_misses operandᵏ 1 optional_suffix a h
 
-  module _ (d : Cursor) (e : r₁ ≡ Got d) {t₂ : List ℕ} {r₂ : Read} (b : Leafs optional_suffix s d t₁ t₂ r₂) where
-    pub abs_lacks : ((x : Cursor) → r₂ ≡ Got x → ⊥) → Reads am_abs s c left t t₂ r₂
+  module _ (d : Cursor) (e : r₁ ≡ Ok d) {t₂ : List ℕ} {r₂ : Read} (b : Leafs optional_suffix s d t₁ t₂ r₂) where
+    pub abs_lacks : IsErr r₂ → Reads am_abs s c left t t₂ r₂
     unfolding am_abs
     abs_lacks h = over_lacks operandᵏ 1 optional_suffix a expression_solid.quieted d e (reads_leaf left b) h
 
-    pub abs_done : {k : Skip} → Skips trivia s c.at.0 c.met k → (x : Cursor) → r₂ ≡ Got x → {t' : List ℕ} {z : Cursor}
-        → Finished operandᵏ 1 c k.at.0 x t₂ t' z → Reads am_abs s c left t t' (Got z)
+    pub abs_done : {k : Skip} → Skips trivia s c.at.0 c.met k → (x : Cursor) → r₂ ≡ Ok x → {t' : List ℕ} {z : Cursor}
+        → Finished operandᵏ 1 c k.at.0 x t₂ t' z → Reads am_abs s c left t t' (Ok z)
     unfolding am_abs
     abs_done {k} gap x q f =
         over_done operandᵏ 1 optional_suffix a expression_solid.quieted d e (reads_leaf left b) suffix_quiet x q k.at.0
         (λ l. low_first (low_expression gap l)) f
 
-not_found : (m : Bool) (d : Cursor) → Miss m ≡ Got d → ⊥
-not_found m d q = got_miss d m (sym q)
-
 -- no `(` stands there: am_ind and am_outer_ind miss at once
 module _ {s : List ℕ} {c : Cursor} (left low : ℕ) (gap : Skips trivia s c.at.0 c.met (skip low c.met))
     (e : begins (40 ∷ []) (drop low s) ≡ false) (t : List ℕ) where
-  no_paren : Leafs (char "(") s c t t (Miss c.met)
+  no_paren : Leafs (char "(") s c t t (Err (Miss c.met))
   no_paren =
       record {
         reading = λ l lim. flat_no charᵏ (always 40) gap lim c.count.0 t
             (leaf_no (full s) l (one (is 40)) s low (one_begins 40 (drop low s) ∙ ap (λ x. given x 1) e));
       }
 
-  ind_misses : Reads am_ind s c left t t (Miss c.met)
+  ind_misses : Reads am_ind s c left t t (Err (Miss c.met))
   unfolding am_ind
-  ind_misses = over_misses operandᵏ 5 optional_suffix (bracket_misses (expression ▸ char ")") left no_paren (not_found c.met)) (not_found c.met)
+  ind_misses = over_misses operandᵏ 5 optional_suffix (bracket_misses (expression ▸ char ")") left no_paren refl) refl
 
-  outer_misses : Reads am_outer_ind s c left t t (Miss c.met)
+  outer_misses : Reads am_outer_ind s c left t t (Err (Miss c.met))
   unfolding am_outer_ind
-  outer_misses = over_misses operandᵏ 4 empty (bracket_misses (expression ▸ optional_suffix ▸ char ")") left no_paren (not_found c.met)) (not_found c.met)
+  outer_misses = over_misses operandᵏ 4 empty (bracket_misses (expression ▸ optional_suffix ▸ char ")") left no_paren refl) refl
 
   pub plain : {t' : List ℕ} {r : Read} → Reads am_abs s c left t t' r → Reads addressed s c left t t' r
   unfolding addressed
@@ -113,17 +111,17 @@ opt_fits : (o : Summary Rows) (p : Input) (b : Bool) (k : ℕ) → elseˢ o (λ 
 opt_fits (fits v q d j) p b k e = fits_fails e
 opt_fits (fails d j) p b k e = fits_fails e
 
-pub suffix_fits : {s : List ℕ} {c : Cursor} {t t₁ : List ℕ} {r₁ : Read} → Leafs optional_suffix s c t t₁ r₁ → ((d : Cursor) → r₁ ≡ Got d → ⊥) → ⊥
+pub suffix_fits : {s : List ℕ} {c : Cursor} {t t₁ : List ℕ} {r₁ : Read} → Leafs optional_suffix s c t t₁ r₁ → IsErr r₁ → ⊥
 unfolding optional_suffix
 suffix_fits {s} {c} {r₁ = r₁} a h = go r₁ refl
   where
     go : (r : Read) → r₁ ≡ r → ⊥
-    go (Got d) e = h d e
-    go (Miss m) e =
+    go (Ok d) e = got_err e h
+    go (Err (Miss m)) e =
         let o = scan (full s) (register_suffix "x" 1 or register_suffix "y" 2) 0 (here s c.at.0) in
         let y = lost 0 c.met c.count.0 (elseˢ o λ _. fits [] (here s c.at.0) false 0) m (sym e ∙ (a.reading 0 0).agrees.answer) in
         opt_fits o (here s c.at.0) y.b y.k y.is
-    go Deep e = leaf_deep a e
+    go (Err Deep) e = leaf_deep a e
 
 -- `)`, with a suffix before it or not
 module _ {s : List ℕ} {c : Cursor} {t t₁ : List ℕ} {r₁ : Read} (suffix : Bool) where
@@ -131,12 +129,12 @@ module _ {s : List ℕ} {c : Cursor} {t t₁ : List ℕ} {r₁ : Read} (suffix :
   unfolding closing_of
   closing_plain e a = subst (λ x. Leafs (closing_of x) s c t t₁ r₁) (sym e) a
 
-  pub closing_misses : suffix ≡ true → Leafs optional_suffix s c t t₁ r₁ → ((d : Cursor) → r₁ ≡ Got d → ⊥) → Leafs (closing_of suffix) s c t t₁ r₁
+  pub closing_misses : suffix ≡ true → Leafs optional_suffix s c t t₁ r₁ → IsErr r₁ → Leafs (closing_of suffix) s c t t₁ r₁
   unfolding closing_of
   closing_misses e a h =
       subst (λ x. Leafs (closing_of x) s c t t₁ r₁) (sym e) (record { reading = λ l lim. seq_out (a.reading l lim) (char ")") h })
 
-  pub closing_goes : suffix ≡ true → Leafs optional_suffix s c t t₁ r₁ → (d : Cursor) → r₁ ≡ Got d → {t' : List ℕ} {r : Read} → Leafs (char ")") s d t₁ t' r
+  pub closing_goes : suffix ≡ true → Leafs optional_suffix s c t t₁ r₁ → (d : Cursor) → r₁ ≡ Ok d → {t' : List ℕ} {r : Read} → Leafs (char ")") s d t₁ t' r
       → Leafs (closing_of suffix) s c t t' r
   unfolding closing_of
   closing_goes e a d q {t'} {r} b =
@@ -148,13 +146,13 @@ module _ {s : List ℕ} {c : Cursor} {k : Skip} (gap : Skips trivia s c.at.0 c.m
   open_byte : first (drop k.at.0 s) ≡ some 40
   open_byte = byte_first 40 (drop k.at.0 s) stands
 
-  inside_deep : r₁ ≡ Deep → Reads addressed s c left t t₁ r₁
+  inside_deep : r₁ ≡ Err Deep → Reads addressed s c left t t₁ r₁
   unfolding addressed am_ind
   inside_deep e =
-      let h : (d : Cursor) → r₁ ≡ Got d → ⊥ = λ d q. got_deep d (sym q ∙ e) in
+      let h : IsErr r₁ = ap is_err e in
       else_first (over_misses operandᵏ 5 optional_suffix (behind_misses a (char ")") h) h) (am_outer_ind or am_abs) λ x q. miss_deep x (sym q ∙ e)
 
-  inside_misses : (m : Bool) → r₁ ≡ Miss m → Reads addressed s c left t t₁ r₁
+  inside_misses : (m : Bool) → r₁ ≡ Err (Miss m) → Reads addressed s c left t t₁ r₁
   inside_misses m e =
       record {
         reading = λ l.
@@ -164,18 +162,18 @@ module _ {s : List ℕ} {c : Cursor} {k : Skip} (gap : Skips trivia s c.at.0 c.m
       }
 
   -- too deep, or no expression
-  pub inside_out : ((d : Cursor) → r₁ ≡ Got d → ⊥) → Reads addressed s c left t t₁ r₁
+  pub inside_out : IsErr r₁ → Reads addressed s c left t t₁ r₁
   inside_out h = go r₁ refl
     where
       go : (r : Read) → r₁ ≡ r → Reads addressed s c left t t₁ r₁
-      go (Got d) e = absurd (h d e)
-      go (Miss m) e = inside_misses m e
-      go Deep e = inside_deep e
+      go (Ok d) e = absurd (got_err e h)
+      go (Err (Miss m)) e = inside_misses m e
+      go (Err Deep) e = inside_deep e
 
-  module _ (d : Cursor) (e : r₁ ≡ Got d) {t₂ : List ℕ} {r₂ : Read} (b : Leafs (closing_of false) s d t₁ t₂ r₂) where
+  module _ (d : Cursor) (e : r₁ ≡ Ok d) {t₂ : List ℕ} {r₂ : Read} (b : Leafs (closing_of false) s d t₁ t₂ r₂) where
     -- `)` follows
-    pub indirect : (x : Cursor) → r₂ ≡ Got x → {t₃ : List ℕ} {r₃ : Read} → Leafs optional_suffix s x t₂ t₃ r₃ → (y : Cursor) → r₃ ≡ Got y
-        → {t' : List ℕ} {z : Cursor} → Finished operandᵏ 5 c k.at.0 y t₃ t' z → Reads addressed s c left t t' (Got z)
+    pub indirect : (x : Cursor) → r₂ ≡ Ok x → {t₃ : List ℕ} {r₃ : Read} → Leafs optional_suffix s x t₂ t₃ r₃ → (y : Cursor) → r₃ ≡ Ok y
+        → {t' : List ℕ} {z : Cursor} → Finished operandᵏ 5 c k.at.0 y t₃ t' z → Reads addressed s c left t t' (Ok z)
     unfolding addressed am_ind closing_of
     indirect x q i y w {t'} {z} f =
         else_first (over_done operandᵏ 5 optional_suffix (behind_goes a (char ")") opened_solid.quieted d e b) closed_quiet x q (reads_leaf left i)
@@ -183,7 +181,7 @@ module _ {s : List ℕ} {c : Cursor} {k : Skip} (gap : Skips trivia s c.at.0 c.m
         (am_outer_ind or am_abs) λ m. got_miss z m
 
     -- `)` does not follow
-    module _ (m : Bool) (q : r₂ ≡ Miss m) where
+    module _ (m : Bool) (q : r₂ ≡ Err (Miss m)) where
       retried : {t' : List ℕ} {r : Read} → Reads tried s c left t t' r → Reads addressed s c left t t' r
       unfolding closing_of
       retried i =
@@ -207,11 +205,11 @@ module _ {s : List ℕ} {c : Cursor} {k : Skip} (gap : Skips trivia s c.at.0 c.m
                   (cursor d.at.0 d.count.0 m) refl (i.reading l lim);
             })
 
-        pub outer_lacks : ((y : Cursor) → r₃ ≡ Got y → ⊥) → Reads addressed s c left t t₃ r₃
+        pub outer_lacks : IsErr r₃ → Reads addressed s c left t t₃ r₃
         outer_lacks h = retried (over_misses operandᵏ 4 empty tried_inside h)
 
-        pub outer_done : (y : Cursor) → r₃ ≡ Got y → {t' : List ℕ} {z : Cursor} → Finished operandᵏ 4 c k.at.0 y t₃ t' z
-            → Reads addressed s c left t t' (Got z)
+        pub outer_done : (y : Cursor) → r₃ ≡ Ok y → {t' : List ℕ} {z : Cursor} → Finished operandᵏ 4 c k.at.0 y t₃ t' z
+            → Reads addressed s c left t t' (Ok z)
         outer_done y w f =
             retried (over_done operandᵏ 4 empty tried_inside tried_quiet y w (reads_empty s y left t₃) tt y refl k.at.0
             (λ l. first_bracket 40 (expression ▸ (never (char ")") ▸ (optional_suffix ▸ char ")"))) trying_quiet gap l) f)
@@ -236,17 +234,17 @@ first_noted o (fits v q d j) g b k e = go (g v q) e
 first_noted o (fails d j) g b k e = let z : b ≡ o || d = cc in z ∙ two o d ∙ ap (◌|| o) (sym z)
 
 module _ {s : List ℕ} {c : Cursor} {left : ℕ} {t t₁ : List ℕ} {r₁ : Read} (a : Reads am_imm s c left t t₁ r₁) where
-  pub operand_imm : ((m : Bool) → r₁ ≡ Miss m → ⊥) → Reads operand s c left t t₁ r₁
+  pub operand_imm : ((m : Bool) → r₁ ≡ Err (Miss m) → ⊥) → Reads operand s c left t t₁ r₁
   unfolding operand addressed
   operand_imm h = else_first a addressed h
 
-  pub operand_other : (m : Bool) → r₁ ≡ Miss m → {t' : List ℕ} {r : Read} → Reads addressed s (cursor c.at.0 c.count.0 m) left t₁ t' r
+  pub operand_other : (m : Bool) → r₁ ≡ Err (Miss m) → {t' : List ℕ} {r : Read} → Reads addressed s (cursor c.at.0 c.count.0 m) left t₁ t' r
       → Reads operand s c left t t' r
   unfolding operand addressed
   operand_other m e b = else_miss a addressed m e b
 
   -- the trivia is noted, and need not be read again
-  pub imm_gap : {k : Skip} → Skips trivia s c.at.0 c.met k → (m : Bool) → r₁ ≡ Miss m → Skips trivia s c.at.0 m (skip k.at.0 m)
+  pub imm_gap : {k : Skip} → Skips trivia s c.at.0 c.met k → (m : Bool) → r₁ ≡ Err (Miss m) → Skips trivia s c.at.0 m (skip k.at.0 m)
   unfolding am_imm
   imm_gap {k} gap m e =
       let i = c.at.0 in

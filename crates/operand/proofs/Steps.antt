@@ -17,8 +17,7 @@ use Rattle.cursor.specs.Text.{here, cursor, skip, Skips}
 use Rattle.cursor.specs.Agree.{full, Reads, Leafs, Ready}
 use Rattle.cursor.specs.declared.Cursor.{Cursor}
 use Rattle.cursor.specs.declared.Skip.{Skip}
-use Rattle.cursor.specs.declared.Read.{Read}
-use Rattle.cursor.specs.declared.Read.TheVariants.{Got, Deep}
+use Rattle.cursor.specs.Read.{Read}
 use Rattle.cursor.proofs.Agree.{agrees_is, agrees_with, agrees_got, agrees_out}
 use Rattle.cursor.proofs.Lows.{First}
 use Rattle.cursor.proofs.Laws.{lies, moved, Solid, rule_is, reading_to, reading_is, empty_is}
@@ -27,6 +26,8 @@ use Rattle.lexis.proofs.Solids.{suffix_moved}
 use Rattle.operand.specs.Finish.{Spans, Finished}
 use Rattle.operand.proofs.Facts.{marked}
 use Rattle.operand.proofs.Paren.{bracket_seq}
+use Rattle.cursor.specs.declared.Stop.TheVariants.{Deep}
+use Rattle.std.specs.Prelude.{Ok, Err, IsErr}
 
 -- what was skipped is skipped again, once what it notes is noted
 pub skips_kept : {w : Parser} {s : List ℕ} {i : ℕ} {met : Bool} {k : Skip} (gap : Skips w s i met k) (m : Bool) → m ≡ m || gap.open?
@@ -40,44 +41,44 @@ pub rule_reads : (x : Rule) → T (quiet_rule x) → {s : List ℕ} {c : Cursor}
     → Reads (rule_of x) s c left t t₁ r₁ → Reads (rule x) s c left t t₁ r₁
 rule_reads x u {s} {c} h k a = record { reading = λ l. reading_is (rule_is x u s l c.at.0 h k) (a.reading l) }
 
-pub reads_empty : (s : List ℕ) (d : Cursor) (left : ℕ) (t : List ℕ) → Reads empty s d left t t (Got d)
+pub reads_empty : (s : List ℕ) (d : Cursor) (left : ℕ) (t : List ℕ) → Reads empty s d left t t (Ok d)
 reads_empty s d left t = record { reading = λ l. empty_is s l (l + left) d.at.0 d.met d.count.0 t }
 
 -- a row with no span of its own
 module _ (k dt : ℕ) {m : Parser} (n : Parser) {s : List ℕ} {c : Cursor} {left : ℕ} {t t₁ : List ℕ} {r₁ : Read} (a : Reads m s c left t t₁ r₁) where
-  pub over_misses : ((d : Cursor) → r₁ ≡ Got d → ⊥) → Reads (over k dt m n) s c left t t₁ r₁
+  pub over_misses : IsErr r₁ → Reads (over k dt m n) s c left t t₁ r₁
   over_misses h = record { reading = λ l. over_out k dt n (a.reading l) h }
 
-  module _ (u : T (quiet m)) (d : Cursor) (e : r₁ ≡ Got d) {t₂ : List ℕ} {r₂ : Read} (b : Reads n s d left t₁ t₂ r₂) where
-    pub over_lacks : ((z : Cursor) → r₂ ≡ Got z → ⊥) → Reads (over k dt m n) s c left t t₂ r₂
+  module _ (u : T (quiet m)) (d : Cursor) (e : r₁ ≡ Ok d) {t₂ : List ℕ} {r₂ : Read} (b : Reads n s d left t₁ t₂ r₂) where
+    pub over_lacks : IsErr r₂ → Reads (over k dt m n) s c left t t₂ r₂
     over_lacks h = record { reading = λ l. over_no k dt n (a.reading l) u d e (b.reading l) h }
 
-    pub over_done : T (quiet n) → (x : Cursor) → r₂ ≡ Got x → (low : ℕ) → ((l : ℕ) → Yields (First low) (scan (full s) m l (here s c.at.0)))
-        → {t' : List ℕ} {z : Cursor} → Finished k dt c low x t₂ t' z → Reads (over k dt m n) s c left t t' (Got z)
+    pub over_done : T (quiet n) → (x : Cursor) → r₂ ≡ Ok x → (low : ℕ) → ((l : ℕ) → Yields (First low) (scan (full s) m l (here s c.at.0)))
+        → {t' : List ℕ} {z : Cursor} → Finished k dt c low x t₂ t' z → Reads (over k dt m n) s c left t t' (Ok z)
     over_done w x q low lows {t'} f =
-        subst (λ z. Reads (over k dt m n) s c left t t' (Got z)) (sym f.is)
+        subst (λ z. Reads (over k dt m n) s c left t t' (Ok z)) (sym f.is)
         (record { reading = λ l. reading_to f.table (over_got k dt n (a.reading l) u d e (b.reading l) w x q f.size low f.counts (lows l)) })
 
 -- a row behind trivia
 module _ (k dt : ℕ) {w m : Parser} {s : List ℕ} {c : Cursor} {j : Skip} (gap : Skips w s c.at.0 c.met j) {left : ℕ} {t t₁ : List ℕ} {r₁ : Read}
     (a : Reads m s (cursor j.at.0 c.count.0 j.met) left t t₁ r₁) where
-  pub node_misses : ((d : Cursor) → r₁ ≡ Got d → ⊥) → Reads (node k (always dt) w m) s c left t t₁ r₁
+  pub node_misses : IsErr r₁ → Reads (node k (always dt) w m) s c left t t₁ r₁
   node_misses h = record { reading = λ l. node_out k (always dt) gap (a.reading l) h }
 
-  pub node_done : T (quiet m) → (d : Cursor) → r₁ ≡ Got d → {t' : List ℕ} {z : Cursor} → Finished k dt c j.at.0 d t₁ t' z
-      → Reads (node k (always dt) w m) s c left t t' (Got z)
+  pub node_done : T (quiet m) → (d : Cursor) → r₁ ≡ Ok d → {t' : List ℕ} {z : Cursor} → Finished k dt c j.at.0 d t₁ t' z
+      → Reads (node k (always dt) w m) s c left t t' (Ok z)
   node_done u d e {t'} f =
-      subst (λ z. Reads (node k (always dt) w m) s c left t t' (Got z)) (sym f.is)
+      subst (λ z. Reads (node k (always dt) w m) s c left t t' (Ok z)) (sym f.is)
       (record { reading = λ l. reading_to f.table (node_got k (always dt) gap (a.reading l) u d e f.size dt f.counts λ v b i p. refl) })
 
 -- Brackets -------------------------------------------------------------------
 
 module _ {w : Parser} {b : ℕ} (m : Parser) {s : List ℕ} {c : Cursor} (left : ℕ) {t t₁ : List ℕ} {r₁ : Read} (a : Leafs (marked w b) s c t t₁ r₁) where
-  pub bracket_misses : ((d : Cursor) → r₁ ≡ Got d → ⊥) → Reads (bracket w b m) s c left t t₁ r₁
+  pub bracket_misses : IsErr r₁ → Reads (bracket w b m) s c left t t₁ r₁
   bracket_misses h = record { reading = λ l. bracket_out m left (a.reading l (l + left)) h }
 
-  module _ (u : T (quiet w)) (d : Cursor) (e : r₁ ≡ Got d) where
-    pub bracket_deep : left ≡ 0 → Reads (bracket w b m) s c left t t₁ Deep
+  module _ (u : T (quiet w)) (d : Cursor) (e : r₁ ≡ Ok d) where
+    pub bracket_deep : left ≡ 0 → Reads (bracket w b m) s c left t t₁ (Err Deep)
     bracket_deep z = record { reading = λ l. bracket_none m left (a.reading l (l + left)) u d e z }
 
     pub bracket_enters : (left ≡ 0 → ⊥) → {t' : List ℕ} {r : Read} → Reads m s d (left - 1) t₁ t' r → Reads (bracket w b m) s c left t t' r
@@ -89,7 +90,7 @@ module _ {w : Parser} {b : ℕ} {m : Parser} {s : List ℕ} {c : Cursor} {left :
   abbrev behind : ℕ → Rows → Input → Summary Rows
   behind l v q = withˢ (v ++◌) (scan (full s) n (suc l) q)
 
-  pub behind_misses : ((d : Cursor) → r₁ ≡ Got d → ⊥) → Reads (bracket w b (m ▸ n)) s c left t t₁ r₁
+  pub behind_misses : IsErr r₁ → Reads (bracket w b (m ▸ n)) s c left t t₁ r₁
   behind_misses h =
       record {
         reading = λ l. record {
@@ -97,7 +98,7 @@ module _ {w : Parser} {b : ℕ} {m : Parser} {s : List ℕ} {c : Cursor} {left :
         };
       }
 
-  pub behind_goes : T (quiet (bracket w b m)) → (d : Cursor) → r₁ ≡ Got d → {t' : List ℕ} {r : Read} → Leafs n s d t₁ t' r
+  pub behind_goes : T (quiet (bracket w b m)) → (d : Cursor) → r₁ ≡ Ok d → {t' : List ℕ} {r : Read} → Leafs n s d t₁ t' r
       → Reads (bracket w b (m ▸ n)) s c left t t' r
   behind_goes u d e x =
       record {
@@ -118,13 +119,13 @@ pub record Onward (j : ℕ) (s : List ℕ) (c d : Cursor) : Type 0 where
   pub rows : d.count.0 + 4 * c.at.0 ≤ 4 * d.at.0 + c.count.0 + j
 
 pub onward : (g : Parser) → T (quiet g) → T (slim g) → (j : ℕ) → (cost g).debt ≤ (cost g).gain + j → {s : List ℕ} {c : Cursor} {left : ℕ} {t t₁ : List ℕ} {r₁ : Read}
-    → c.at.0 ≤ length s → Reads g s c left t t₁ r₁ → (d : Cursor) → r₁ ≡ Got d → Onward j s c d
+    → c.at.0 ≤ length s → Reads g s c left t t₁ r₁ → (d : Cursor) → r₁ ≡ Ok d → Onward j s c d
 onward g u w j h i a d e =
     let m = moved g u w d i (a.reading 0) e in
     record { on = m.on; within = m.within; grown = m.grown; rows = omega (arith, m.rows, h) }
 
 pub onward_solid : {g : Parser} → Solid g → {s : List ℕ} {c : Cursor} {left : ℕ} {t t₁ : List ℕ} {r₁ : Read}
-    → c.at.0 ≤ length s → Reads g s c left t t₁ r₁ → (d : Cursor) → r₁ ≡ Got d → Onward 0 s c d
+    → c.at.0 ≤ length s → Reads g s c left t t₁ r₁ → (d : Cursor) → r₁ ≡ Ok d → Onward 0 s c d
 onward_solid {g} x i a d e = onward g x.quieted x.slimmed 0 (omega (arith, leb→le (cost g).debt (cost g).gain x.paying)) i a d e
 
 pub onward_then : {j k : ℕ} {s : List ℕ} {c d e : Cursor} → Onward j s c d → Onward k s d e → Onward (j + k) s c e
@@ -159,7 +160,7 @@ spans h gap i a =
 pub onward_noted : {j : ℕ} {s : List ℕ} {c d : Cursor} (m : Bool) → Onward j s c d → Onward j s c (cursor d.at.0 d.count.0 m)
 onward_noted m a = record { on = a.on; within = a.within; grown = a.grown; rows = a.rows }
 
-pub onward_suffix : {s : List ℕ} {c : Cursor} {t t₁ : List ℕ} {r₁ : Read} → c.at.0 ≤ length s → Leafs optional_suffix s c t t₁ r₁ → (d : Cursor) → r₁ ≡ Got d
+pub onward_suffix : {s : List ℕ} {c : Cursor} {t t₁ : List ℕ} {r₁ : Read} → c.at.0 ≤ length s → Leafs optional_suffix s c t t₁ r₁ → (d : Cursor) → r₁ ≡ Ok d
     → Onward 0 s c d
 onward_suffix i a d e =
     let m = suffix_moved d i (a.reading 0 0) e in

@@ -16,20 +16,14 @@ pub fn config_map(s: &[u8], c: Cursor, left: usize, rows: &mut [u32]) -> Read
     requires { Ready 0 s.now c }
     ensures { Reads config_map s.now c left rows.old rows.new result }
 {
-    let at = c.at;
-    let k = trivia::multiline_trivia(s, at, c.met);
-    let low = k.at;
-    let f = lexis::mark::char(s, c, k, b'{', rows);
-    let Ok(d) = f else {
-        return f;
-    };
+    let k = trivia::multiline_trivia(s, c.at, c.met);
+    let d = lexis::mark::char(s, c, k, b'{', rows)?;
     if left == 0 {
         return Err(Stop::Deep);
     }
     let e = kvps(s, d, left - 1, rows)?;
-    let y = crate::finish(c, low, e, Kind::Block, 0, rows);
-    let z = crate::finish(c, low, y, Kind::Config, 0, rows);
-    Ok(z)
+    let y = crate::finish(c, k.at, e, Kind::Block, 0, rows);
+    Ok(crate::finish(c, k.at, y, Kind::Config, 0, rows))
 }
 
 // Pairs, and the closing brace.
@@ -42,11 +36,7 @@ fn kvps(s: &[u8], c: Cursor, left: usize, rows: &mut [u32]) -> Read
     loop {
         match kvp(s, d, left, rows) {
             Ok(e) => d = e,
-            Err(Stop::Miss(met)) => {
-                let at = d.at;
-                let count = d.count;
-                return mchar(s, Cursor { at, count, met }, b'}', rows);
-            }
+            Err(Stop::Miss(met)) => return mchar(s, Cursor { met, ..d }, b'}', rows),
             Err(Stop::Deep) => return Err(Stop::Deep),
         }
     }
@@ -58,13 +48,10 @@ pub fn kvp(s: &[u8], c: Cursor, left: usize, rows: &mut [u32]) -> Read
     requires { Ready 0 s.now c }
     ensures { Reads kvp s.now c left rows.old rows.new result }
 {
-    let at = c.at;
-    let k = trivia::multiline_trivia(s, at, c.met);
-    let low = k.at;
+    let k = trivia::multiline_trivia(s, c.at, c.met);
     let d = config_key(s, c, k, rows)?;
     let e = assigned(s, d, left, rows)?;
-    let z = crate::finish(c, low, e, Kind::ConfigPair, 0, rows);
-    Ok(z)
+    Ok(crate::finish(c, k.at, e, Kind::ConfigPair, 0, rows))
 }
 
 // Letters, digits and `-`, the first no digit.
@@ -81,8 +68,7 @@ fn mchar(s: &[u8], c: Cursor, b: u8, rows: &mut [u32]) -> Read
     requires { Ready 4 s.now c }
     ensures { Leafs (node charᵏ (always b) multiline_trivia (leaf (one (is b)))) s.now c rows.old rows.new result }
 {
-    let at = c.at;
-    let k = trivia::multiline_trivia(s, at, c.met);
+    let k = trivia::multiline_trivia(s, c.at, c.met);
     lexis::mark::char(s, c, k, b, rows)
 }
 
@@ -103,22 +89,14 @@ fn value(s: &[u8], c: Cursor, left: usize, rows: &mut [u32]) -> Read
     requires le_at { 1 ≤ c.at.0 }
     ensures { Reads (mws config_valueᵏ 0 config_value) s.now c left rows.old rows.new result }
 {
-    let at = c.at;
-    let count = c.count;
-    let k = trivia::multiline_trivia(s, at, c.met);
-    let low = k.at;
-    let d = config_value(
-        s,
-        Cursor {
-            at: low,
-            count,
-            met: k.met,
-        },
-        left,
-        rows,
-    )?;
-    let z = crate::finish(c, low, d, Kind::ConfigValue, 0, rows);
-    Ok(z)
+    let k = trivia::multiline_trivia(s, c.at, c.met);
+    let start = Cursor {
+        at: k.at,
+        met: k.met,
+        ..c
+    };
+    let d = config_value(s, start, left, rows)?;
+    Ok(crate::finish(c, k.at, d, Kind::ConfigValue, 0, rows))
 }
 
 // A map, or an expression.
@@ -140,10 +118,7 @@ fn expression_value(s: &[u8], c: Cursor, left: usize, rows: &mut [u32]) -> Read
     requires { Ready 0 s.now c }
     ensures { Reads (over expressionᵏ 0 expression empty) s.now c left rows.old rows.new result }
 {
-    let at = c.at;
-    let k = trivia::trivia(s, at, c.met);
-    let low = k.at;
+    let k = trivia::trivia(s, c.at, c.met);
     let d = expression::expression(s, c, k, left, rows)?;
-    let z = crate::finish(c, low, d, Kind::Expression, 0, rows);
-    Ok(z)
+    Ok(crate::finish(c, k.at, d, Kind::Expression, 0, rows))
 }

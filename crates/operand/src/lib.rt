@@ -7,6 +7,7 @@ ghost use Rattle.reading.specs.Grammar.{bracket};
 ghost use Rattle.reading.specs.Rules.{char, trivia, expression, am_imm, am_abs, operand};
 ghost use Rattle.cursor.specs.Text.{Skips};
 ghost use Rattle.cursor.specs.Agree.{Ready, Reads, Leafs};
+ghost use Rattle.table.specs.Kinds.{kind_number};
 ghost use Rattle.operand.specs.Parts.{addressed, closing_of};
 ghost use Rattle.operand.specs.Finish.{Spans, Finished};
 
@@ -25,28 +26,25 @@ const INDIRECT: usize = 4;
 const OUTER_INDIRECT: usize = 5;
 
 // The row around what stands from `c` to `d`; its body begins at `low`.
-fn finish(c: Cursor, low: Pos, d: Cursor, kind: usize, detail: usize, rows: &mut [u32]) -> Cursor
+fn finish(c: Cursor, low: Pos, d: Cursor, kind: Kind, detail: usize, rows: &mut [u32]) -> Cursor
     requires spans { Spans c low.0 d }
-    requires kind_bound { (kind < 2 ^ 32) × (detail < 2 ^ 32) }
-    ensures { Finished kind detail c low.0 d rows.old rows.new result }
+    requires detail_bound { detail < 2 ^ 32 }
+    ensures { Finished (kind_number kind) detail c low.0 d rows.old rows.new result }
 {
     let n = d.count.0;
-    let base = c.count.0;
-    let high = d.at;
     table::push_row(
         rows,
-        RowIndex(n),
+        d.count,
         kind,
-        n + 1 - base,
+        n + 1 - c.count.0,
         c.at,
         low,
-        high,
+        d.at,
         detail,
     );
     Cursor {
-        at: high,
         count: RowIndex(n + 1),
-        met: d.met,
+        ..d
     }
 }
 
@@ -56,14 +54,13 @@ pub fn operand(s: &[u8], c: Cursor, k: Skip, left: usize, rows: &mut [u32]) -> R
     requires skips { Skips trivia s.now c.at.0 c.met k }
     ensures { Reads operand s.now c left rows.old rows.new result }
 {
-    let low = k.at;
     let met = match am_imm(s, c, k, left, rows) {
         Err(Stop::Miss(met)) => met,
         read => return read,
     };
     let d = Cursor { met, ..c };
     let j = Skip { met, ..k };
-    if trivia::byte_is(s, low, b'(') {
+    if trivia::byte_is(s, k.at, b'(') {
         return in_parens(s, d, j, left, rows);
     }
     am_abs(s, d, j, left, rows)
@@ -75,13 +72,10 @@ fn am_imm(s: &[u8], c: Cursor, k: Skip, left: usize, rows: &mut [u32]) -> Read
     requires skips { Skips trivia s.now c.at.0 c.met k }
     ensures { Reads am_imm s.now c left rows.old rows.new result }
 {
-    let low = k.at;
     let d = lexis::mark::char(s, c, k, b'#', rows)?;
-    let at = d.at;
-    let j = trivia::trivia(s, at, d.met);
+    let j = trivia::trivia(s, d.at, d.met);
     let e = expression::expression(s, d, j, left, rows)?;
-    let z = finish(c, low, e, Kind::Operand, IMMEDIATE, rows);
-    Ok(z)
+    Ok(finish(c, k.at, e, Kind::Operand, IMMEDIATE, rows))
 }
 
 // An expression, and a suffix or none.
@@ -90,11 +84,9 @@ fn am_abs(s: &[u8], c: Cursor, k: Skip, left: usize, rows: &mut [u32]) -> Read
     requires skips { Skips trivia s.now c.at.0 c.met k }
     ensures { Reads am_abs s.now c left rows.old rows.new result }
 {
-    let low = k.at;
     let d = expression::expression(s, c, k, left, rows)?;
     let e = lexis::operator::optional_suffix(s, d, rows)?;
-    let z = finish(c, low, e, Kind::Operand, ABSOLUTE_OR_ZP, rows);
-    Ok(z)
+    Ok(finish(c, k.at, e, Kind::Operand, ABSOLUTE_OR_ZP, rows))
 }
 
 // Where `(` stands: am_ind, am_outer_ind and am_abs. The three begin with the same bytes, and where `)` does not follow the expression,
@@ -105,18 +97,15 @@ fn in_parens(s: &[u8], c: Cursor, k: Skip, left: usize, rows: &mut [u32]) -> Rea
     requires s_value { begins (40 ∷ []) (drop k.at.0 s.now) ≡ true }
     ensures { Reads addressed s.now c left rows.old rows.new result }
 {
-    let low = k.at;
     let d = opened(s, c, k, left, rows)?;
     match closing(s, d, false, rows) {
         Ok(e) => {
             let x = lexis::operator::optional_suffix(s, e, rows)?;
-            let z = finish(c, low, x, Kind::Operand, OUTER_INDIRECT, rows);
-            Ok(z)
+            Ok(finish(c, k.at, x, Kind::Operand, OUTER_INDIRECT, rows))
         }
         Err(Stop::Miss(met)) => {
             let x = closing(s, Cursor { met, ..d }, true, rows)?;
-            let z = finish(c, low, x, Kind::Operand, INDIRECT, rows);
-            Ok(z)
+            Ok(finish(c, k.at, x, Kind::Operand, INDIRECT, rows))
         }
         Err(Stop::Deep) => Err(Stop::Deep),
     }
@@ -132,8 +121,7 @@ fn opened(s: &[u8], c: Cursor, k: Skip, left: usize, rows: &mut [u32]) -> Read
     if left == 0 {
         return Err(Stop::Deep);
     }
-    let at = d.at;
-    let j = trivia::trivia(s, at, d.met);
+    let j = trivia::trivia(s, d.at, d.met);
     expression::expression(s, d, j, left - 1, rows)
 }
 
@@ -142,8 +130,7 @@ fn close(s: &[u8], c: Cursor, rows: &mut [u32]) -> Read
     requires { Ready 4 s.now c }
     ensures { Leafs (char ")") s.now c rows.old rows.new result }
 {
-    let at = c.at;
-    let k = trivia::trivia(s, at, c.met);
+    let k = trivia::trivia(s, c.at, c.met);
     lexis::mark::char(s, c, k, b')', rows)
 }
 

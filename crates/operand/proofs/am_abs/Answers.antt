@@ -1,4 +1,6 @@
 -- An expression, a suffix or none, and the row around them.
+use mathlib.Core.Path.{refl}
+use Rattle.std.proofs.lemmas.Result.{err_from_is_err_and}
 use native.Mathlib.Omega.{arith}
 use Rattle.expression.proofs.Facts.{expression_solid}
 use Rattle.expression.proofs.Steps.{ready_four}
@@ -6,24 +8,27 @@ use Rattle.operand.proofs.Steps.{onward_solid, onward_then, onward_suffix, onwar
 use Rattle.operand.proofs.Forms.{abs_misses, abs_lacks, abs_done}
 use Rattle.operand.proofs.am_abs.Goals as goal
 
-pub returns-in_default : goal.returns-in_default
-returns-in_default c = abs_misses c.expression-f.ensures c.in_default.not-Got
+pub returns-in_err-d : goal.returns-in_err-d
+returns-in_err-d c =
+    let p = err_from_is_err_and c.from_residual.result c.from_residual.ensures.1 in
+    rw (p.1, p.2) (abs_misses c.in_err-d.ensures refl)
 
-pub optional_suffix-g-requires : goal.optional_suffix-g-requires
-optional_suffix-g-requires c =
-    let a = onward_solid expression_solid c.requires.ready.within c.expression-f.ensures c.in-Got.d c.in-Got.is in
+pub optional_suffix-requires : goal.optional_suffix-requires
+optional_suffix-requires c =
+    let a = onward_solid expression_solid c.requires.ready.within c.in_ok-d.ensures c.in_ok-d.d refl in
     ready_four (onward_ready c.requires.ready a)
 
-pub returns-in_default-g : goal.returns-in_default-g
-returns-in_default-g c =
-    abs_lacks c.expression-f.ensures c.in-Got.d c.in-Got.is c.optional_suffix-g.ensures c.in_default-g.not-Got
+pub returns-in_err-e : goal.returns-in_err-e
+returns-in_err-e c =
+    let p = err_from_is_err_and c.from_residual-in_err-e.result c.from_residual-in_err-e.ensures.1 in
+    rw (p.1, p.2) (abs_lacks c.in_ok-d.ensures c.in_ok-d.d refl c.in_err-e.ensures refl)
 
-pub finish-z-requires-clause-spans : goal.finish-z-requires-clause-spans
-finish-z-requires-clause-spans c =
-    let a = onward_solid expression_solid c.requires.ready.within c.expression-f.ensures c.in-Got.d c.in-Got.is in
-    let b = onward_suffix a.within c.optional_suffix-g.ensures c.in-Got-g.e c.in-Got-g.is in
+pub finish-requires-clause-spans : goal.finish-requires-clause-spans
+finish-requires-clause-spans c =
+    let a = onward_solid expression_solid c.requires.ready.within c.in_ok-d.ensures c.in_ok-d.d refl in
+    let b = onward_suffix a.within c.in_ok-e.ensures c.in_ok-e.e refl in
     spans c.requires.ready c.requires.skips (omega arith) (onward_then a b)
 
 pub returns : goal.returns
 returns c =
-    abs_done c.expression-f.ensures c.in-Got.d c.in-Got.is c.optional_suffix-g.ensures c.requires.skips c.in-Got-g.e c.in-Got-g.is c.finish-z.ensures
+    abs_done c.in_ok-d.ensures c.in_ok-d.d refl c.in_ok-e.ensures c.requires.skips c.in_ok-e.e refl c.finish.ensures

@@ -1,4 +1,7 @@
 -- `(` and the expression are read once; then `)` and a suffix, or a suffix and `)`. proofs/Forms says what each outcome means for the three forms.
+use mathlib.Core.Path.{refl, ap, ◌∙◌}
+use Rattle.std.specs.Prelude.{Err}
+use Rattle.std.proofs.lemmas.Result.{err_from_is_err_and}
 use mathlib.Core.Bool.{true, false}
 use native.Mathlib.Omega.{arith}
 use Rattle.cursor.proofs.Laws.{reads_leaf, leaf_deep}
@@ -8,57 +11,60 @@ use Rattle.operand.proofs.Steps.{onward_solid, onward_then, onward_noted, onward
 use Rattle.operand.proofs.Forms.{suffix_fits, inside_out, indirect, outer_lacks, outer_done}
 use Rattle.operand.proofs.in_parens.Goals as goal
 
-pub returns-in_default : goal.returns-in_default
-returns-in_default c =
-    inside_out c.requires.skips c.requires.s_value c.opened-f.ensures c.in_default.not-Got
+pub returns-in_err-d : goal.returns-in_err-d
+returns-in_err-d c =
+    let p = err_from_is_err_and c.from_residual.result c.from_residual.ensures.1 in
+    rw (p.1, p.2) (inside_out c.requires.skips c.requires.s_value c.in_err-d.ensures refl)
 
-pub closing-g-requires : goal.closing-g-requires
-closing-g-requires c =
-    let a = onward_solid opened_solid c.requires.ready.within c.opened-f.ensures c.in-Got.d c.in-Got.is in
+pub closing-requires : goal.closing-requires
+closing-requires c =
+    let a = onward_solid opened_solid c.requires.ready.within c.in_ok-d.ensures c.in_ok-d.d refl in
     ready_four (onward_ready c.requires.ready a)
 
-pub optional_suffix-h-requires : goal.optional_suffix-h-requires
-optional_suffix-h-requires c =
-    let a = onward_solid opened_solid c.requires.ready.within c.opened-f.ensures c.in-Got.d c.in-Got.is in
-    let b = onward_then a (onward_solid (closing_solid false) a.within (reads_leaf 0 c.closing-g.ensures) c.in-Got-g.e c.in-Got-g.is) in
+pub optional_suffix-requires : goal.optional_suffix-requires
+optional_suffix-requires c =
+    let a = onward_solid opened_solid c.requires.ready.within c.in_ok-d.ensures c.in_ok-d.d refl in
+    let b = onward_then a (onward_solid (closing_solid false) a.within (reads_leaf 0 c.closing.ensures) c.in-Ok.e c.in-Ok.is) in
     ready_four (onward_ready c.requires.ready b)
 
-pub returns-in_default-h : goal.returns-in_default-h
-returns-in_default-h c = absurd (suffix_fits c.optional_suffix-h.ensures c.in_default-h.not-Got)
+pub returns-in_err-x-in-Ok : goal.returns-in_err-x-in-Ok
+returns-in_err-x-in-Ok c = absurd (suffix_fits c.in_err-x-in-Ok.ensures refl)
 
-pub finish-z-requires-clause-spans : goal.finish-z-requires-clause-spans
-finish-z-requires-clause-spans c =
-    let a = onward_solid opened_solid c.requires.ready.within c.opened-f.ensures c.in-Got.d c.in-Got.is in
-    let b = onward_then a (onward_solid (closing_solid false) a.within (reads_leaf 0 c.closing-g.ensures) c.in-Got-g.e c.in-Got-g.is) in
-    let x = onward_then b (onward_suffix b.within c.optional_suffix-h.ensures c.in-Got-h.x c.in-Got-h.is) in
+pub finish-requires-clause-spans : goal.finish-requires-clause-spans
+finish-requires-clause-spans c =
+    let a = onward_solid opened_solid c.requires.ready.within c.in_ok-d.ensures c.in_ok-d.d refl in
+    let b = onward_then a (onward_solid (closing_solid false) a.within (reads_leaf 0 c.closing.ensures) c.in-Ok.e c.in-Ok.is) in
+    let x = onward_then b (onward_suffix b.within c.in_ok-x-in-Ok.ensures c.in_ok-x-in-Ok.x refl) in
     spans c.requires.ready c.requires.skips (omega arith) x
 
-pub closing-h-requires : goal.closing-h-requires
-closing-h-requires c =
-    let a = onward_solid opened_solid c.requires.ready.within c.opened-f.ensures c.in-Got.d c.in-Got.is in
+pub closing-requires-in-Err-Miss : goal.closing-requires-in-Err-Miss
+closing-requires-in-Err-Miss c =
+    let a = onward_solid opened_solid c.requires.ready.within c.in_ok-d.ensures c.in_ok-d.d refl in
     ready_met (ready_four (onward_ready c.requires.ready a)) _
 
-pub returns-in_default-h-2 : goal.returns-in_default-h-2
-returns-in_default-h-2 c =
-    outer_lacks c.requires.skips c.requires.s_value c.opened-f.ensures c.in-Got.d c.in-Got.is c.closing-g.ensures _ c.in-Miss.is
-    c.closing-h.ensures c.in_default-h-2.not-Got
+pub returns-in_err-x-in-Err-Miss : goal.returns-in_err-x-in-Err-Miss
+returns-in_err-x-in-Err-Miss c =
+    let p = err_from_is_err_and c.from_residual-in_err-x-in-Err-Miss.result c.from_residual-in_err-x-in-Err-Miss.ensures.1 in
+    rw (p.1, p.2)
+    (outer_lacks c.requires.skips c.requires.s_value c.in_ok-d.ensures c.in_ok-d.d refl c.closing.ensures _
+    (c.in-Err-Miss.is ∙ ap Err c.in-Err-Miss.field-0-is) c.in_err-x-in-Err-Miss.ensures refl)
 
-pub finish-z-requires-in-Miss-clause-spans : goal.finish-z-requires-in-Miss-clause-spans
-finish-z-requires-in-Miss-clause-spans c =
-    let a = onward_solid opened_solid c.requires.ready.within c.opened-f.ensures c.in-Got.d c.in-Got.is in
-    let y = onward_then (onward_noted c.in-Miss.met a)
-    (onward_solid (closing_solid true) a.within (reads_leaf 0 c.closing-h.ensures) c.in-Got-h-2.x c.in-Got-h-2.is) in
+pub finish-requires-in-Err-Miss-clause-spans : goal.finish-requires-in-Err-Miss-clause-spans
+finish-requires-in-Err-Miss-clause-spans c =
+    let a = onward_solid opened_solid c.requires.ready.within c.in_ok-d.ensures c.in_ok-d.d refl in
+    let y = onward_then (onward_noted c.in-Err-Miss.met a)
+    (onward_solid (closing_solid true) a.within (reads_leaf 0 c.in_ok-x-in-Err-Miss.ensures) c.in_ok-x-in-Err-Miss.x refl) in
     spans c.requires.ready c.requires.skips (omega arith) y
 
-pub returns-in-Got-h : goal.returns-in-Got-h
-returns-in-Got-h c =
-    indirect c.requires.skips c.requires.s_value c.opened-f.ensures c.in-Got.d c.in-Got.is c.closing-g.ensures c.in-Got-g.e
-    c.in-Got-g.is c.optional_suffix-h.ensures c.in-Got-h.x c.in-Got-h.is c.finish-z.ensures
+pub returns-in_ok-x-in-Ok : goal.returns-in_ok-x-in-Ok
+returns-in_ok-x-in-Ok c =
+    indirect c.requires.skips c.requires.s_value c.in_ok-d.ensures c.in_ok-d.d refl c.closing.ensures c.in-Ok.e
+    c.in-Ok.is c.in_ok-x-in-Ok.ensures c.in_ok-x-in-Ok.x refl c.finish.ensures
 
-pub returns-in-Got-h-2 : goal.returns-in-Got-h-2
-returns-in-Got-h-2 c =
-    outer_done c.requires.skips c.requires.s_value c.opened-f.ensures c.in-Got.d c.in-Got.is c.closing-g.ensures _ c.in-Miss.is
-    c.closing-h.ensures c.in-Got-h-2.x c.in-Got-h-2.is c.finish-z-in-Miss.ensures
+pub returns-in_ok-x-in-Err-Miss : goal.returns-in_ok-x-in-Err-Miss
+returns-in_ok-x-in-Err-Miss c =
+    outer_done c.requires.skips c.requires.s_value c.in_ok-d.ensures c.in_ok-d.d refl c.closing.ensures _
+    (c.in-Err-Miss.is ∙ ap Err c.in-Err-Miss.field-0-is) c.in_ok-x-in-Err-Miss.ensures c.in_ok-x-in-Err-Miss.x refl c.finish-in-Err-Miss.ensures
 
-pub returns-in-Deep : goal.returns-in-Deep
-returns-in-Deep c = absurd (leaf_deep c.closing-g.ensures c.in-Deep.is)
+pub returns-in-Err-Deep : goal.returns-in-Err-Deep
+returns-in-Err-Deep c = absurd (leaf_deep c.closing.ensures (c.in-Err-Deep.is ∙ ap Err c.in-Err-Deep.field-0-is))

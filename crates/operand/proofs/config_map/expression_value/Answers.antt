@@ -1,4 +1,6 @@
 -- An expression, and the row around it.
+use mathlib.Core.Path.{refl}
+use Rattle.std.proofs.lemmas.Result.{err_from_is_err_and}
 use native.Mathlib.Omega.{arith}
 use Rattle.reading.specs.Grammar.{empty}
 use Rattle.reading.specs.Kind.{expressionᵏ}
@@ -7,14 +9,16 @@ use Rattle.operand.proofs.Steps.{over_misses, onward_solid, spans}
 use Rattle.operand.proofs.Pairs.{expression_done}
 use Rattle.operand.proofs.config_map.expression_value.Goals as goal
 
-pub returns-in_default : goal.returns-in_default
-returns-in_default c = over_misses expressionᵏ 0 empty c.expression-f.ensures c.in_default.not-Got
+pub returns-in_err-d : goal.returns-in_err-d
+returns-in_err-d c =
+    let p = err_from_is_err_and c.from_residual.result c.from_residual.ensures.1 in
+    rw (p.1, p.2) (over_misses expressionᵏ 0 empty c.in_err-d.ensures refl)
 
-pub finish-z-requires-clause-spans : goal.finish-z-requires-clause-spans
-finish-z-requires-clause-spans c =
-    let a = onward_solid expression_solid c.requires.within c.expression-f.ensures c.in-Got.d c.in-Got.is in
+pub finish-requires-clause-spans : goal.finish-requires-clause-spans
+finish-requires-clause-spans c =
+    let a = onward_solid expression_solid c.requires.within c.in_ok-d.ensures c.in_ok-d.d refl in
     spans c.requires c.trivia-k.ensures (omega arith) a
 
 pub returns : goal.returns
 returns c =
-    expression_done c.trivia-k.ensures c.expression-f.ensures c.in-Got.d c.in-Got.is c.finish-z.ensures
+    expression_done c.trivia-k.ensures c.in_ok-d.ensures c.in_ok-d.d refl c.finish.ensures
