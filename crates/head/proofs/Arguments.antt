@@ -15,7 +15,7 @@ use Rattle.reading.proofs.Tests.{quiet}
 use Rattle.cursor.specs.Agree.{full, Reads}
 use Rattle.cursor.specs.Text.{here}
 use Rattle.cursor.specs.declared.Cursor.{Cursor}
-use Rattle.cursor.specs.declared.Read.{Read}
+use Rattle.cursor.specs.Read.{Read}
 use Rattle.cursor.proofs.Agree.{Lies}
 use Rattle.cursor.proofs.Laws.{lies, rule_is, reading_is}
 

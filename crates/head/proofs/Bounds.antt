@@ -12,10 +12,10 @@ use Rattle.cursor.specs.Agree.{Reads, Ready}
 use Rattle.cursor.specs.Text.{cursor, Skips}
 use Rattle.cursor.specs.declared.Cursor.{Cursor}
 use Rattle.cursor.specs.declared.Skip.{Skip}
-use Rattle.cursor.specs.declared.Read.{Read}
-use Rattle.cursor.specs.declared.Read.TheVariants.{Got}
+use Rattle.cursor.specs.Read.{Read}
 use Rattle.cursor.proofs.Laws.{moved, Solid, stepped}
 use Rattle.head.specs.Parts.{Closable}
+use Rattle.std.specs.Prelude.{Ok}
 
 -- a parser that pays for its rows but for n of them, and may have none
 pub record Owing (n : ℕ) (g : Parser) : Type 0 where
@@ -37,7 +37,7 @@ pub record Next (k : ℕ) (s : List ℕ) (c d : Cursor) : Type 0 where
   pub grown : c.count.0 ≤ d.count.0
 
 pub next : {n : ℕ} {g : Parser} → Owing n g → {s : List ℕ} {c : Cursor} → Ready 0 s c → {left : ℕ} {t t' : List ℕ} {r : Read}
-    → Reads g s c left t t' r → {d : Cursor} → r ≡ Got d → Next n s c d
+    → Reads g s c left t t' r → {d : Cursor} → r ≡ Ok d → Next n s c d
 next {n} {g} ok h a {d} e =
     let m = moved g ok.quieted ok.slimmed d h.within (a.reading 0) e in
     let p = leb→le (cost g).debt ((cost g).gain + n) ok.owing in
@@ -71,7 +71,7 @@ more_ready h = record { small = h.small; within = h.within; few = omega (arith, 
 
 -- behind what has a row there is a byte
 pub past : {g : Parser} → Solid g → {s : List ℕ} {c : Cursor} → Ready 0 s c → {left : ℕ} {t t' : List ℕ} {r : Read}
-    → Reads g s c left t t' r → {d : Cursor} → r ≡ Got d → 1 ≤ d.at.0
+    → Reads g s c left t t' r → {d : Cursor} → r ≡ Ok d → 1 ≤ d.at.0
 past ok h a {d} e = omega (arith, (stepped ok d h.within (a.reading 0) e).on)
 
 -- a second attempt, after what was met in the first

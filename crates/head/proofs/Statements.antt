@@ -14,8 +14,7 @@ use Rattle.cursor.specs.Agree.{full, Reads, Ready}
 use Rattle.cursor.specs.Text.{here, Skips}
 use Rattle.cursor.specs.declared.Cursor.{Cursor}
 use Rattle.cursor.specs.declared.Skip.{Skip}
-use Rattle.cursor.specs.declared.Read.{Read}
-use Rattle.cursor.specs.declared.Read.TheVariants.{Got}
+use Rattle.cursor.specs.Read.{Read}
 use Rattle.cursor.proofs.Laws.{Solid}
 use Rattle.cursor.proofs.Lows.{First, low_first, low_node, low_pick}
 use Rattle.word.specs.Words.{mnemonic_list}
@@ -24,6 +23,7 @@ use Rattle.head.specs.Parts.{Whole, Closable}
 use Rattle.head.proofs.Bounds.{Owing, paid_up, next, closable}
 use Rattle.head.proofs.Tests.{word_solid, mnemonic_solid}
 use Rattle.head.proofs.Wholes.{over_whole}
+use Rattle.std.specs.Prelude.{Ok}
 
 -- First children ---------------------------------------------------------------
 
@@ -66,7 +66,7 @@ module _ {s : List ℕ} {c : Cursor} {k : Skip} (p : Ready 0 s c × Skips multil
 -- The others -------------------------------------------------------------------
 
 module _ {m : Parser} {s : List ℕ} {c : Cursor} {k : Skip} (h : Begins m s c k) {left : ℕ} {t t₁ : List ℕ} {r₁ : Read} (a : Reads m s c left t t₁ r₁)
-    {d : Cursor} (e : r₁ ≡ Got d) where
+    {d : Cursor} (e : r₁ ≡ Ok d) where
   pub rest_ready : Ready 0 s d
   rest_ready = (next (paid_up h.solid) h.ready a e).ready
 

@@ -14,35 +14,36 @@ use Rattle.cursor.specs.Agree.{full, Reads}
 use Rattle.cursor.specs.Text.{here, cursor, Skips}
 use Rattle.cursor.specs.declared.Cursor.{Cursor}
 use Rattle.cursor.specs.declared.Skip.{Skip}
-use Rattle.cursor.specs.declared.Read.{Read}
-use Rattle.cursor.specs.declared.Read.TheVariants.{Got, Miss, Deep}
-use Rattle.cursor.proofs.Agree.{got_deep, got_miss}
+use Rattle.cursor.specs.Read.{Read}
+use Rattle.cursor.proofs.Agree.{got_err}
 use Rattle.cursor.proofs.Laws.{node_out, node_got, over_out, over_no, over_got}
 use Rattle.cursor.proofs.Lows.{First}
 use Rattle.head.specs.Parts.{whole_rows, whole_answer, Whole, Closable}
 use Rattle.head.proofs.Steps.{reads_as}
+use Rattle.cursor.specs.declared.Stop.TheVariants.{Miss, Deep}
+use Rattle.std.specs.Prelude.{Ok, Err, IsErr, is_err}
 
 -- what `whole` answers
 module _ (kind : ℕ) (c : Cursor) (k : Skip) where
-  pub whole_none : (f : Read) (t : List ℕ) → ((d : Cursor) → f ≡ Got d → ⊥) → Whole kind c k f t t f
+  pub whole_none : (f : Read) (t : List ℕ) → IsErr f → Whole kind c k f t t f
   unfolding whole_rows whole_answer
-  whole_none (Got e) t h = absurd (h e refl)
-  whole_none (Miss m) t h = record { table = refl; answer = refl }
-  whole_none Deep t h = record { table = refl; answer = refl }
+  whole_none (Ok e) t h = absurd (got_err {d = e} refl h)
+  whole_none (Err (Miss m)) t h = record { table = refl; answer = refl }
+  whole_none (Err Deep) t h = record { table = refl; answer = refl }
 
-  pub whole_some : {f : Read} {e : Cursor} → f ≡ Got e → {t t' : List ℕ}
+  pub whole_some : {f : Read} {e : Cursor} → f ≡ Ok e → {t t' : List ℕ}
       → t' ≡ pushed row_width t e.count.0 (row_record kind (e.count.0 + 1 - c.count.0) c.at.0 k.at.0 e.at.0 0)
-      → Whole kind c k f t t' (Got (cursor e.at.0 (e.count.0 + 1) e.met))
+      → Whole kind c k f t t' (Ok (cursor e.at.0 (e.count.0 + 1) e.met))
   unfolding whole_rows whole_answer
   whole_some {e = e} q {t} h = record { table = h ∙ sym (ap (whole_rows kind c k t) q); answer = sym (ap whole_answer q) }
 
 -- over, from the answer of its first child and that of the others
 module _ (kind : ℕ) {m : Parser} (n : Parser) {s : List ℕ} {c : Cursor} {left : ℕ} {t t₁ : List ℕ} {r₁ : Read} (a : Reads m s c left t t₁ r₁) where
-  pub over_stop : ((d : Cursor) → r₁ ≡ Got d → ⊥) → Reads (over kind 0 m n) s c left t t₁ r₁
+  pub over_stop : IsErr r₁ → Reads (over kind 0 m n) s c left t t₁ r₁
   over_stop h = record { reading = λ l. over_out kind 0 n (a.reading l) h }
 
   -- k: where the first child begins
-  pub over_whole : T (quiet m) → T (quiet n) → {d : Cursor} → r₁ ≡ Got d → {t₂ : List ℕ} {r₂ : Read} → Reads n s d left t₁ t₂ r₂
+  pub over_whole : T (quiet m) → T (quiet n) → {d : Cursor} → r₁ ≡ Ok d → {t₂ : List ℕ} {r₂ : Read} → Reads n s d left t₁ t₂ r₂
       → {k : Skip} → ((l : ℕ) → Yields (First k.at.0) (scan (full s) m l (here s c.at.0))) → Closable c k r₂
       → {t' : List ℕ} {r : Read} → Whole kind c k r₂ t₂ t' r → Reads (over kind 0 m n) s c left t t' r
   unfolding whole_rows whole_answer
@@ -54,14 +55,14 @@ module _ (kind : ℕ) {m : Parser} (n : Parser) {s : List ℕ} {c : Cursor} {lef
           (subst (λ (z : List ℕ). Reads (over kind 0 m n) s c left t z (whole_answer x)) (sym (w.table ∙ ap (whole_rows kind c k t₂) q)) y)
 
       go : (x : Read) → r₂ ≡ x → Reads (over kind 0 m n) s c left t t' r
-      go (Got y) q =
-          to (Got y) q
+      go (Ok y) q =
+          to (Ok y) q
           (record {
             reading = λ l. over_got kind 0 n (a.reading l) u d e (b.reading l) v y q (y.count.0 + 1 - c.count.0) k.at.0
                 (omega (arith, (ok.spans y q).grown)) (lows l);
           })
-      go (Miss x) q = to (Miss x) q (reads_as (sym q) (record { reading = λ l. over_no kind 0 n (a.reading l) u d e (b.reading l) λ y z. got_miss y x (sym z ∙ q) }))
-      go Deep q = to Deep q (reads_as (sym q) (record { reading = λ l. over_no kind 0 n (a.reading l) u d e (b.reading l) λ y z. got_deep y (sym z ∙ q) }))
+      go (Err (Miss x)) q = to (Err (Miss x)) q (reads_as (sym q) (record { reading = λ l. over_no kind 0 n (a.reading l) u d e (b.reading l) (ap is_err q) }))
+      go (Err Deep) q = to (Err Deep) q (reads_as (sym q) (record { reading = λ l. over_no kind 0 n (a.reading l) u d e (b.reading l) (ap is_err q) }))
 
 -- node, from what was skipped and the answer of what is in it
 pub node_whole : (kind : ℕ) {w m : Parser} {s : List ℕ} {c : Cursor} {k : Skip} → Skips w s c.at.0 c.met k → T (quiet m)
@@ -79,11 +80,11 @@ node_whole kind {w} {m} {s} {c} {k} x u {left} {t} {t₁} {r₁} a ok {t'} {r} z
         (subst (λ (v : List ℕ). Reads g s c left t v (whole_answer y)) (sym (z.table ∙ ap (whole_rows kind c k t₁) q)) b)
 
     go : (y : Read) → r₁ ≡ y → Reads g s c left t t' r
-    go (Got d) q =
-        to (Got d) q
+    go (Ok d) q =
+        to (Ok d) q
         (record {
           reading = λ l. node_got kind (always 0) x (a.reading l) u d q (d.count.0 + 1 - c.count.0) 0
               (omega (arith, (ok.spans d q).grown)) λ v b j p. refl;
         })
-    go (Miss y) q = to (Miss y) q (reads_as (sym q) (record { reading = λ l. node_out kind (always 0) x (a.reading l) λ d e. got_miss d y (sym e ∙ q) }))
-    go Deep q = to Deep q (reads_as (sym q) (record { reading = λ l. node_out kind (always 0) x (a.reading l) λ d e. got_deep d (sym e ∙ q) }))
+    go (Err (Miss y)) q = to (Err (Miss y)) q (reads_as (sym q) (record { reading = λ l. node_out kind (always 0) x (a.reading l) (ap is_err q) }))
+    go (Err Deep) q = to (Err Deep) q (reads_as (sym q) (record { reading = λ l. node_out kind (always 0) x (a.reading l) (ap is_err q) }))

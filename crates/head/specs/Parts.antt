@@ -1,5 +1,5 @@
 -- What the answers of parts mean for the whole.
-use Rattle.std.specs.Prelude.{List, ◌≡◌, ℕ, ◌+◌, ◌-◌, ◌^◌, ◌≤◌, ◌<◌}
+use Rattle.std.specs.Prelude.{List, ◌≡◌, ℕ, ◌+◌, ◌-◌, ◌^◌, ◌≤◌, ◌<◌, Ok, Err}
 use Rattle.reading.specs.Grammar.{Parser}
 use Rattle.reading.specs.Table.{row_width}
 use Rattle.table.specs.Words.{pushed, row_record}
@@ -7,8 +7,8 @@ use Rattle.cursor.specs.Text.{cursor}
 use Rattle.cursor.specs.Agree.{Reads}
 use Rattle.cursor.specs.declared.Cursor.{Cursor}
 use Rattle.cursor.specs.declared.Skip.{Skip}
-use Rattle.cursor.specs.declared.Read.{Read}
-use Rattle.cursor.specs.declared.Read.TheVariants.{Got, Miss, Deep}
+use Rattle.cursor.specs.Read.{Read}
+use Rattle.cursor.specs.declared.Stop.TheVariants.{Miss, Deep}
 
 -- a function reads by a parser that enters no level: it is told no limit
 pub record Flat (g : Parser) (s : List ℕ) (c : Cursor) (t t' : List ℕ) (r : Read) : Type 0 where
@@ -16,27 +16,27 @@ pub record Flat (g : Parser) (s : List ℕ) (c : Cursor) (t t' : List ℕ) (r : 
 
 -- from c on, the answer of opt(m), where m has answered
 unfoldable pub optional : Cursor → Read → Read
-optional c (Got d) = Got d
-optional c (Miss m) = Got (cursor c.at.0 c.count.0 m)
-optional c Deep = Deep
+optional c (Ok d) = Ok d
+optional c (Err (Miss m)) = Ok (cursor c.at.0 c.count.0 m)
+optional c (Err Deep) = Err Deep
 
 -- the same of opt(not(m)), which reads nothing
 unfoldable pub tried : Cursor → Read → Read
-tried c (Got d) = Got (cursor c.at.0 c.count.0 d.met)
-tried c (Miss m) = Got (cursor c.at.0 c.count.0 m)
-tried c Deep = Deep
+tried c (Ok d) = Ok (cursor c.at.0 c.count.0 d.met)
+tried c (Err (Miss m)) = Ok (cursor c.at.0 c.count.0 m)
+tried c (Err Deep) = Err Deep
 
 -- the row around all that was read from c on, where trivia ended at k
 unfoldable pub whole_rows : ℕ → Cursor → Skip → List ℕ → Read → List ℕ
-whole_rows kind c k t (Got e) =
+whole_rows kind c k t (Ok e) =
     pushed row_width t e.count.0 (row_record kind (e.count.0 + 1 - c.count.0) c.at.0 k.at.0 e.at.0 0)
-whole_rows kind c k t (Miss m) = t
-whole_rows kind c k t Deep = t
+whole_rows kind c k t (Err (Miss m)) = t
+whole_rows kind c k t (Err Deep) = t
 
 unfoldable pub whole_answer : Read → Read
-whole_answer (Got e) = Got (cursor e.at.0 (e.count.0 + 1) e.met)
-whole_answer (Miss m) = Miss m
-whole_answer Deep = Deep
+whole_answer (Ok e) = Ok (cursor e.at.0 (e.count.0 + 1) e.met)
+whole_answer (Err (Miss m)) = Err (Miss m)
+whole_answer (Err Deep) = Err Deep
 
 pub record Whole (kind : ℕ) (c : Cursor) (k : Skip) (f : Read) (t t' : List ℕ) (r : Read) : Type 0 where
   pub table : t' ≡ whole_rows kind c k t f
@@ -51,4 +51,4 @@ pub record Spans (c : Cursor) (k : Skip) (e : Cursor) : Type 0 where
   pub high : e.at.0 < 2 ^ 32
 
 pub record Closable (c : Cursor) (k : Skip) (f : Read) : Type 0 where
-  pub spans : (e : Cursor) → f ≡ Got e → Spans c k e
+  pub spans : (e : Cursor) → f ≡ Ok e → Spans c k e

@@ -9,7 +9,7 @@ ghost use Rattle.head.specs.Heads.{assigned, named, varconst, label_head, define
 use crate::{directive, part};
 use cursor::{Cursor, Read, Skip, Stop};
 use lexis::{identifier, mark};
-use table::{Kind, Pos, RowIndex};
+use table::Kind;
 
 // `=` and an expression.
 fn assigned(s: &[u8], c: Cursor, left: usize, rows: &mut [u32]) -> Read
@@ -91,17 +91,11 @@ pub fn label_head(s: &[u8], c: Cursor, k: Skip, rows: &mut [u32]) -> Read
     ensures { Flat label_head s.now c rows.old rows.new result }
 {
     let d = identifier::name(s, c, k, rows)?;
-    let low = d.at;
-    mark::char(
-        s,
-        d,
-        Skip {
-            at: low,
-            met: d.met,
-        },
-        b':',
-        rows,
-    )
+    let behind = Skip {
+        at: d.at,
+        met: d.met,
+    };
+    mark::char(s, d, behind, b':', rows)
 }
 
 // `.define` and a name.
@@ -119,34 +113,12 @@ fn identifier_arg_list(s: &[u8], c: Cursor, rows: &mut [u32]) -> Read
     requires { Ready 0 s.now c }
     ensures { Flat identifier_arg_list s.now c rows.old rows.new result }
 {
-    let mut at = c.at.0;
-    let mut count = c.count.0;
-    let mut met = c.met;
+    let mut next = c;
     loop {
-        let d = part::name(
-            s,
-            Cursor {
-                at: Pos(at),
-                count: RowIndex(count),
-                met,
-            },
-            rows,
-        )?;
-        let end = d.at;
-        let n = d.count;
-        match part::char(s, d, b',', rows) {
-            Ok(e) => {
-                at = e.at.0;
-                count = e.count.0;
-                met = e.met;
-            }
-            Err(Stop::Miss(m)) => {
-                return Ok(Cursor {
-                    at: end,
-                    count: n,
-                    met: m,
-                });
-            }
+        let last = part::name(s, next, rows)?;
+        match part::char(s, last, b',', rows) {
+            Ok(e) => next = e,
+            Err(Stop::Miss(met)) => return Ok(Cursor { met, ..last }),
             Err(Stop::Deep) => return Err(Stop::Deep),
         }
     }

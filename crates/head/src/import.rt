@@ -9,7 +9,7 @@ ghost use Rattle.head.specs.Heads.{as_path, import_names, import_head};
 use crate::{directive, part};
 use cursor::{Cursor, Read, Skip, Stop};
 use lexis::mark;
-use table::{Kind, Pos, RowIndex};
+use table::Kind;
 
 // `as` and a path.
 fn as_path(s: &[u8], c: Cursor, rows: &mut [u32]) -> Read
@@ -42,18 +42,13 @@ fn specific_arg(s: &[u8], c: Cursor, rows: &mut [u32]) -> Read
     requires { Ready 0 s.now c }
     ensures { Flat specific_arg s.now c rows.old rows.new result }
 {
-    let count = c.count;
     let k = trivia::trivia(s, c.at, c.met);
-    let low = k.at;
-    let f = path_renamed(
-        s,
-        Cursor {
-            at: low,
-            count,
-            met: k.met,
-        },
-        rows,
-    );
+    let start = Cursor {
+        at: k.at,
+        met: k.met,
+        ..c
+    };
+    let f = path_renamed(s, start, rows);
     part::whole(c, k, f, Kind::ImportArgument, rows)
 }
 
@@ -62,34 +57,12 @@ fn specific_args(s: &[u8], c: Cursor, rows: &mut [u32]) -> Read
     requires { Ready 0 s.now c }
     ensures { Flat (arg_list specific_arg) s.now c rows.old rows.new result }
 {
-    let mut at = c.at.0;
-    let mut count = c.count.0;
-    let mut met = c.met;
+    let mut next = c;
     loop {
-        let d = specific_arg(
-            s,
-            Cursor {
-                at: Pos(at),
-                count: RowIndex(count),
-                met,
-            },
-            rows,
-        )?;
-        let end = d.at;
-        let n = d.count;
-        match part::char(s, d, b',', rows) {
-            Ok(e) => {
-                at = e.at.0;
-                count = e.count.0;
-                met = e.met;
-            }
-            Err(Stop::Miss(m)) => {
-                return Ok(Cursor {
-                    at: end,
-                    count: n,
-                    met: m,
-                });
-            }
+        let last = specific_arg(s, next, rows)?;
+        match part::char(s, last, b',', rows) {
+            Ok(e) => next = e,
+            Err(Stop::Miss(met)) => return Ok(Cursor { met, ..last }),
             Err(Stop::Deep) => return Err(Stop::Deep),
         }
     }
@@ -121,8 +94,7 @@ fn import_names(s: &[u8], c: Cursor, rows: &mut [u32]) -> Read
     ensures { Flat import_names s.now c rows.old rows.new result }
 {
     let d = import_args(s, c, rows)?;
-    let at = d.at;
-    let k = trivia::multiline_trivia(s, at, d.met);
+    let k = trivia::multiline_trivia(s, d.at, d.met);
     mark::word(s, d, k, b"from", Kind::Word, 0, rows)
 }
 

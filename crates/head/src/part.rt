@@ -3,12 +3,13 @@ ghost use Rattle.std.specs.Prelude.{◌≡◌, ◌^◌, ◌<◌};
 ghost use Rattle.reading.specs.Rules.{name, path, expression};
 ghost use Rattle.cursor.specs.Agree.{Ready, Reads, Leafs};
 ghost use Rattle.literal.specs.Parts.{string_of};
+ghost use Rattle.table.specs.Kinds.{kind_number};
 ghost use Rattle.head.specs.Parts.{optional, Whole, Closable};
 ghost use Rattle.head.specs.Heads.{char_of};
 
 use cursor::{Cursor, Read, Skip, Stop};
 use lexis::{identifier, mark};
-use table::RowIndex;
+use table::{Kind, RowIndex};
 
 // A character behind its trivia.
 pub fn char(s: &[u8], c: Cursor, b: u8, rows: &mut [u32]) -> Read
@@ -56,36 +57,22 @@ pub fn expression(s: &[u8], c: Cursor, left: usize, rows: &mut [u32]) -> Read
 pub fn optional(c: Cursor, f: Read) -> Read
     ensures { result ≡ optional c f }
 {
-    let Err(Stop::Miss(met)) = f else {
-        return f;
-    };
-    Ok(Cursor { met, ..c })
+    match f {
+        Err(Stop::Miss(met)) => Ok(Cursor { met, ..c }),
+        read => read,
+    }
 }
 
 // The row around all that was read from `c` on, whose trivia ended at `k`, if its last part was read.
-pub fn whole(c: Cursor, k: Skip, f: Read, kind: usize, rows: &mut [u32]) -> Read
-    requires closable { Closable c k f }
-    requires kind_bound { kind < 2 ^ 32 }
-    ensures { Whole kind c k f rows.old rows.new result }
+pub fn whole(c: Cursor, k: Skip, f: Read, kind: Kind, rows: &mut [u32]) -> Read
+    requires { Closable c k f }
+    ensures { Whole (kind_number kind) c k f rows.old rows.new result }
 {
-    let Ok(e) = f else {
-        return f;
-    };
+    let e = f?;
     let n = e.count.0;
-    let high = e.at;
-    table::push_row(
-        rows,
-        RowIndex(n),
-        kind,
-        n + 1 - c.count.0,
-        c.at,
-        k.at,
-        high,
-        0,
-    );
+    table::push_row(rows, e.count, kind, n + 1 - c.count.0, c.at, k.at, e.at, 0);
     Ok(Cursor {
-        at: high,
         count: RowIndex(n + 1),
-        met: e.met,
+        ..e
     })
 }

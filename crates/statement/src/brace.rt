@@ -44,31 +44,17 @@ pub fn close(
     requires tlow_in_bounds { (tlow.0 ≤ length s.now) × (low.0 < length s.now) }
     ensures { Closes multiline_trivia (opening tlow.0 low.0) s.now c st rows.old rows.new errors.old errors.new result }
 {
-    let at = c.at;
-    let n = c.count.0;
-    let k = trivia::multiline_trivia(s, at, false);
-    let place = c.at.0; // before the trivia
-    let r = mark(s, c, k, st, b'}', rows, errors);
-    let Err(Stop::Miss(x)) = r else {
-        return r;
+    let k = trivia::multiline_trivia(s, c.at, false);
+    let x = match mark(s, c, k, st, b'}', rows, errors) {
+        Err(Stop::Miss(x)) => x,
+        done => return done,
     };
-    table::push_row(
-        rows,
-        RowIndex(n),
-        Kind::Char,
-        1,
-        tlow,
-        low,
-        Pos(low.0 + 1),
-        125,
-    );
-    let y = state::report(x, 5, Pos(place), Pos(place), errors);
-    Ok((
-        Cursor {
-            at,
-            count: RowIndex(n + 1),
-            met: false,
-        },
-        y,
-    ))
+    table::push_row(rows, c.count, Kind::Char, 1, tlow, low, Pos(low.0 + 1), 125);
+    let y = state::report(x, 5, c.at, c.at, errors);
+    let end = Cursor {
+        count: RowIndex(c.count.0 + 1),
+        met: false,
+        ..c
+    };
+    Ok((end, y))
 }

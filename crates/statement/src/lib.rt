@@ -137,20 +137,17 @@ fn end(
     ensures { LinedLeaf eof s.now at.0 count st rows.old rows.new errors.old errors.new result }
 {
     let (d, x) = eof_behind(s, at, count, st, rows, errors)?;
-    let high = d.at;
     let n = count + d.count.0;
     line::number(s, rows, count, n, here);
-    Ok((
-        Cursor {
-            at: high,
-            count: RowIndex(n),
-            met: false,
-        },
-        x,
-    ))
+    let end = Cursor {
+        count: RowIndex(n),
+        met: false,
+        ..d
+    };
+    Ok((end, x))
 }
 
-// The whole text, from a state with no errors and no requests: a Got, or a Deep. The lines of a token's rows are filled in as soon as they stand,
+// The whole text, from a state with no errors and no requests. It ends, or goes too deep. The lines of a token's rows are filled in as soon as they stand,
 // which is faster than a pass at the end.
 pub fn source_file(
     s: &[u8],

@@ -14,17 +14,8 @@ pub fn lifted(s: &[u8], st: State, f: Read, errors: &mut [u32]) -> Done
 {
     match f {
         Ok(d) => {
-            let at = d.at;
-            let count = d.count;
             let x = state::note(st, d.met, Pos(s.len()), errors);
-            Ok((
-                Cursor {
-                    at,
-                    count,
-                    met: false,
-                },
-                x,
-            ))
+            Ok((Cursor { met: false, ..d }, x))
         }
         Err(Stop::Miss(met)) => {
             let x = state::note(st, met, Pos(s.len()), errors);

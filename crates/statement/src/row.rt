@@ -1,5 +1,6 @@
 // The row around a statement.
 ghost use Rattle.std.specs.Prelude.{◌^◌, ◌<◌};
+ghost use Rattle.table.specs.Kinds.{kind_number};
 ghost use Rattle.statement.specs.Shapes.{Spans, Closed, Imported};
 
 use cursor::{Cursor, Skip};
@@ -12,38 +13,32 @@ pub fn close(
     k: Skip,
     d: Cursor,
     st: State,
-    kind: usize,
+    kind: Kind,
     scope: bool,
     rows: &mut [u32],
 ) -> Done
-    requires spans { Spans c k d st }
-    requires kind_bound { kind < 2 ^ 32 }
-    ensures { Closed scope kind c k d st rows.old rows.new result }
+    requires { Spans c k d st }
+    ensures { Closed scope (kind_number kind) c k d st rows.old rows.new result }
 {
     let n = d.count.0;
     let size = n + 1 - c.count.0;
-    let tlow = c.at;
-    let low = k.at;
-    let high = d.at;
     let end = Cursor {
-        at: high,
+        at: d.at,
         count: RowIndex(n + 1),
         met: false,
     };
     if scope {
         let number = st.scope + 1;
-        table::push_row(rows, RowIndex(n), kind, size, tlow, low, high, number);
+        table::push_row(rows, d.count, kind, size, c.at, k.at, d.at, number);
         return Ok((
             end,
             State {
                 scope: number,
-                swallow: st.swallow,
-                errors: st.errors,
-                requests: st.requests,
+                ..st
             },
         ));
     }
-    table::push_row(rows, RowIndex(n), kind, size, tlow, low, high, 0);
+    table::push_row(rows, d.count, kind, size, c.at, k.at, d.at, 0);
     Ok((end, st))
 }
 

@@ -97,8 +97,7 @@ pub fn else_head(s: &[u8], c: Cursor, st: State, rows: &mut [u32], errors: &mut 
     requires { Fit 0 s.now c st }
     ensures { TellsLeaf (directive "else") s.now c st rows.old rows.new errors.old errors.new result }
 {
-    let at = c.at;
-    let k = trivia::multiline_trivia(s, at, false);
+    let k = trivia::multiline_trivia(s, c.at, false);
     let f = directive::else_head(s, Cursor { met: false, ..c }, k, rows);
     lifted(s, st, f, errors)
 }

@@ -3,13 +3,16 @@ ghost use Rattle.std.specs.Prelude.{false, ◌^◌, ◌≤◌, ◌<◌, length};
 ghost use Rattle.reading.specs.Grammar.{◌▸◌, many0};
 ghost use Rattle.reading.specs.Rules.{opt, multiline_trivia, directive, expression, block, block_item, braces, label, macro_definition, import', statement};
 ghost use Rattle.cursor.specs.Text.{Skips};
+ghost use Rattle.table.specs.Kinds.{kind_number};
 ghost use Rattle.state.specs.Acts.{Fit, Does, tables};
 ghost use Rattle.statement.specs.Shapes.{body_of, closing, Headed, Ends};
 ghost use Rattle.statement.specs.Heads.{from_macro, from_loop, from_import};
 ghost use Rattle.head.specs.Heads.{directive_of};
 
-use cursor::{Cursor, Stop};
+use crate::{Body, brace, quiet, row, start, text};
+use cursor::{Cursor, Skip, Stop};
 use state::{Done, State};
+use table::{Kind, Pos, RowIndex};
 
 // A statement or error text.
 #[cycle(statement)]
@@ -30,7 +33,7 @@ fn item(
         Err(Stop::Miss(x)) => x,
         done => return done,
     };
-    crate::text::error_in_block(s, c, x, rows, errors)
+    text::error_in_block(s, c, x, rows, errors)
 }
 
 #[cycle(statement)]
@@ -47,38 +50,15 @@ fn items(
     requires le_at { 1 ≤ c.at.0 }
     ensures { Does (many0 block_item) s.now c st left (tables rows.old errors.old requests.old) (tables rows.new errors.new requests.new) result }
 {
-    let mut at = c.at.0;
-    let mut count = c.count.0;
+    let mut next = Cursor { met: false, ..c };
     let mut state = st;
     loop {
-        match item(
-            s,
-            Cursor {
-                at: table::Pos(at),
-                count: table::RowIndex(count),
-                met: false,
-            },
-            state,
-            left,
-            rows,
-            errors,
-            requests,
-        ) {
+        match item(s, next, state, left, rows, errors, requests) {
             Ok((d, x)) => {
-                at = d.at.0;
-                count = d.count.0;
+                next = Cursor { met: false, ..d };
                 state = x;
             }
-            Err(Stop::Miss(x)) => {
-                return Ok((
-                    Cursor {
-                        at: table::Pos(at),
-                        count: table::RowIndex(count),
-                        met: false,
-                    },
-                    x,
-                ));
-            }
+            Err(Stop::Miss(x)) => return Ok((next, x)),
             Err(Stop::Deep) => return Err(Stop::Deep),
         }
     }
@@ -89,7 +69,7 @@ fn items(
 fn braced(
     s: &[u8],
     c: Cursor,
-    k: cursor::Skip,
+    k: Skip,
     st: State,
     left: usize,
     rows: &mut [u32],
@@ -100,38 +80,30 @@ fn braced(
     requires skips { Skips multiline_trivia s.now c.at.0 false k }
     ensures { Does block s.now c st left (tables rows.old errors.old requests.old) (tables rows.new errors.new requests.new) result }
 {
-    let tlow = c.at;
-    let base = c.count.0;
-    let f = crate::brace::mark(s, c, k, st, b'{', rows, errors);
-    let Ok((d, x)) = f else {
-        return f;
-    };
+    let (d, x) = brace::mark(s, c, k, st, b'{', rows, errors)?;
     if left == 0 {
         return Err(Stop::Deep);
     }
-    let low = table::Pos(d.at.0 - 1);
+    let low = Pos(d.at.0 - 1);
     let (e, y) = items(s, d, x, left - 1, rows, errors, requests)?;
-    let (j, z) = crate::brace::close(s, e, y, tlow, low, rows, errors)?;
+    let (j, z) = brace::close(s, e, y, c.at, low, rows, errors)?;
     let n = j.count.0;
-    let high = j.at;
     table::push_row(
         rows,
-        table::RowIndex(n),
+        j.count,
         Kind::Block,
-        n + 1 - base,
-        tlow,
+        n + 1 - c.count.0,
+        c.at,
         low,
-        high,
+        j.at,
         0,
     );
-    Ok((
-        Cursor {
-            at: high,
-            count: table::RowIndex(n + 1),
-            met: false,
-        },
-        z,
-    ))
+    let end = Cursor {
+        at: j.at,
+        count: RowIndex(n + 1),
+        met: false,
+    };
+    Ok((end, z))
 }
 
 #[cycle(statement)]
@@ -147,8 +119,7 @@ fn block(
     requires { Fit 0 s.now c st }
     ensures { Does block s.now c st left (tables rows.old errors.old requests.old) (tables rows.new errors.new requests.new) result }
 {
-    let at = c.at;
-    let k = trivia::multiline_trivia(s, at, false);
+    let k = trivia::multiline_trivia(s, c.at, false);
     braced(s, c, k, st, left, rows, errors, requests)
 }
 
@@ -187,7 +158,7 @@ fn other(
     requires { Fit 0 s.now c st }
     ensures { Does (directive "else" ▸ block) s.now c st left (tables rows.old errors.old requests.old) (tables rows.new errors.new requests.new) result }
 {
-    let (d, x) = crate::start::else_head(s, c, st, rows, errors)?;
+    let (d, x) = start::else_head(s, c, st, rows, errors)?;
     block(s, d, x, left, rows, errors, requests)
 }
 
@@ -217,7 +188,7 @@ fn branches(
 fn body(
     s: &[u8],
     c: Cursor,
-    b: crate::Body,
+    b: Body,
     st: State,
     left: usize,
     rows: &mut [u32],
@@ -228,9 +199,9 @@ fn body(
     ensures { Does (body_of b) s.now c st left (tables rows.old errors.old requests.old) (tables rows.new errors.new requests.new) result }
 {
     match b {
-        crate::Body::Maybe => maybe(s, c, st, left, rows, errors, requests),
-        crate::Body::Block => block(s, c, st, left, rows, errors, requests),
-        crate::Body::Branches => branches(s, c, st, left, rows, errors, requests),
+        Body::Maybe => maybe(s, c, st, left, rows, errors, requests),
+        Body::Block => block(s, c, st, left, rows, errors, requests),
+        Body::Branches => branches(s, c, st, left, rows, errors, requests),
     }
 }
 
@@ -239,10 +210,10 @@ fn body(
 fn rest(
     s: &[u8],
     c: Cursor,
-    k: cursor::Skip,
+    k: Skip,
     h: Done,
-    b: crate::Body,
-    kind: usize,
+    b: Body,
+    kind: Kind,
     scope: bool,
     left: usize,
     rows: &mut [u32],
@@ -250,14 +221,12 @@ fn rest(
     requests: &mut [u32],
 ) -> Done
     requires skips { Skips multiline_trivia s.now c.at.0 false k }
-    requires headed { Headed s.now c h × (kind < 2 ^ 32) }
-    ensures { Ends b scope kind s.now c k h left (tables rows.old errors.old requests.old) (tables rows.new errors.new requests.new) result }
+    requires headed { Headed s.now c h }
+    ensures { Ends b scope (kind_number kind) s.now c k h left (tables rows.old errors.old requests.old) (tables rows.new errors.new requests.new) result }
 {
-    let Ok((d, x)) = h else {
-        return h;
-    };
+    let (d, x) = h?;
     let (e, y) = body(s, d, b, x, left, rows, errors, requests)?;
-    crate::row::close(c, k, e, y, kind, scope, rows)
+    row::close(c, k, e, y, kind, scope, rows)
 }
 
 // A statement of a directive and an expression.
@@ -265,10 +234,10 @@ fn rest(
 fn directive(
     s: &[u8],
     c: Cursor,
-    k: cursor::Skip,
+    k: Skip,
     word: &[u8],
-    b: crate::Body,
-    kind: usize,
+    b: Body,
+    kind: Kind,
     scope: bool,
     st: State,
     left: usize,
@@ -277,10 +246,10 @@ fn directive(
     requests: &mut [u32],
 ) -> Done
     requires fit { Fit 0 s.now c st }
-    requires skips { Skips multiline_trivia s.now c.at.0 false k × (kind < 2 ^ 32) × (1 ≤ length word.now) }
-    ensures { Does (closing scope kind (directive_of word.now) (expression ▸ body_of b)) s.now c st left (tables rows.old errors.old requests.old) (tables rows.new errors.new requests.new) result }
+    requires skips { Skips multiline_trivia s.now c.at.0 false k × (1 ≤ length word.now) }
+    ensures { Does (closing scope (kind_number kind) (directive_of word.now) (expression ▸ body_of b)) s.now c st left (tables rows.old errors.old requests.old) (tables rows.new errors.new requests.new) result }
 {
-    let h = crate::start::directive_head(s, c, k, word, st, left, rows, errors);
+    let h = start::directive_head(s, c, k, word, st, left, rows, errors);
     rest(s, c, k, h, b, kind, scope, left, rows, errors, requests)
 }
 
@@ -288,7 +257,7 @@ fn directive(
 fn braces(
     s: &[u8],
     c: Cursor,
-    k: cursor::Skip,
+    k: Skip,
     st: State,
     left: usize,
     rows: &mut [u32],
@@ -300,14 +269,14 @@ fn braces(
     ensures { Does braces s.now c st left (tables rows.old errors.old requests.old) (tables rows.new errors.new requests.new) result }
 {
     let (d, x) = braced(s, c, k, st, left, rows, errors, requests)?;
-    crate::row::close(c, k, d, x, Kind::Braces, true, rows)
+    row::close(c, k, d, x, Kind::Braces, true, rows)
 }
 
 #[cycle(statement)]
 fn label(
     s: &[u8],
     c: Cursor,
-    k: cursor::Skip,
+    k: Skip,
     st: State,
     left: usize,
     rows: &mut [u32],
@@ -318,13 +287,13 @@ fn label(
     requires skips { Skips multiline_trivia s.now c.at.0 false k }
     ensures { Does label s.now c st left (tables rows.old errors.old requests.old) (tables rows.new errors.new requests.new) result }
 {
-    let h = crate::start::label_head(s, c, k, st, rows, errors);
+    let h = start::label_head(s, c, k, st, rows, errors);
     rest(
         s,
         c,
         k,
         h,
-        crate::Body::Maybe,
+        Body::Maybe,
         Kind::Label,
         false,
         left,
@@ -338,7 +307,7 @@ fn label(
 fn macro_of(
     s: &[u8],
     c: Cursor,
-    k: cursor::Skip,
+    k: Skip,
     st: State,
     left: usize,
     rows: &mut [u32],
@@ -349,13 +318,13 @@ fn macro_of(
     requires skips { Skips multiline_trivia s.now c.at.0 false k }
     ensures { Does macro_definition s.now c st left (tables rows.old errors.old requests.old) (tables rows.new errors.new requests.new) result }
 {
-    let h = crate::start::macro_head(s, c, k, st, rows, errors);
+    let h = start::macro_head(s, c, k, st, rows, errors);
     rest(
         s,
         c,
         k,
         h,
-        crate::Body::Block,
+        Body::Block,
         Kind::MacroDefinition,
         false,
         left,
@@ -369,7 +338,7 @@ fn macro_of(
 fn import(
     s: &[u8],
     c: Cursor,
-    k: cursor::Skip,
+    k: Skip,
     st: State,
     left: usize,
     rows: &mut [u32],
@@ -380,14 +349,12 @@ fn import(
     requires skips { Skips multiline_trivia s.now c.at.0 false k }
     ensures { Does import' s.now c st left (tables rows.old errors.old requests.old) (tables rows.new errors.new requests.new) result }
 {
-    let (d, x) = crate::start::import_head(s, c, k, st, rows, errors)?;
-    let from = d.at;
-    let quote = trivia::trivia(s, from, false);
-    let low = quote.at;
-    let (e, y) = crate::start::import_file(s, d, x, rows, errors)?;
-    let high = table::Pos(e.at.0 - 1);
+    let (d, x) = start::import_head(s, c, k, st, rows, errors)?;
+    let quote = trivia::trivia(s, d.at, false);
+    let (e, y) = start::import_file(s, d, x, rows, errors)?;
+    let high = Pos(e.at.0 - 1);
     let (j, z) = maybe(s, e, y, left, rows, errors, requests)?;
-    crate::row::import(c, k, j, z, low, high, rows, requests)
+    row::import(c, k, j, z, quote.at, high, rows, requests)
 }
 
 // The alternatives from .import on.
@@ -395,7 +362,7 @@ fn import(
 fn fourth(
     s: &[u8],
     c: Cursor,
-    k: cursor::Skip,
+    k: Skip,
     st: State,
     left: usize,
     rows: &mut [u32],
@@ -410,7 +377,7 @@ fn fourth(
         Err(Stop::Miss(st)) => st,
         done => return done,
     };
-    let st = match crate::quiet::texts(s, c, k, st, left, rows, errors) {
+    let st = match quiet::texts(s, c, k, st, left, rows, errors) {
         Err(Stop::Miss(st)) => st,
         done => return done,
     };
@@ -419,7 +386,7 @@ fn fourth(
         c,
         k,
         b".test",
-        crate::Body::Block,
+        Body::Block,
         Kind::Test,
         false,
         st,
@@ -431,7 +398,7 @@ fn fourth(
         Err(Stop::Miss(st)) => st,
         done => return done,
     };
-    crate::quiet::checks(s, c, k, st, left, rows, errors)
+    quiet::checks(s, c, k, st, left, rows, errors)
 }
 
 // From .loop on.
@@ -439,7 +406,7 @@ fn fourth(
 fn third(
     s: &[u8],
     c: Cursor,
-    k: cursor::Skip,
+    k: Skip,
     st: State,
     left: usize,
     rows: &mut [u32],
@@ -455,7 +422,7 @@ fn third(
         c,
         k,
         b".loop",
-        crate::Body::Block,
+        Body::Block,
         Kind::Loop,
         true,
         st,
@@ -472,7 +439,7 @@ fn third(
         c,
         k,
         b".if",
-        crate::Body::Branches,
+        Body::Branches,
         Kind::If,
         false,
         st,
@@ -484,7 +451,7 @@ fn third(
         Err(Stop::Miss(st)) => st,
         done => return done,
     };
-    let st = match crate::quiet::align(s, c, k, st, left, rows, errors) {
+    let st = match quiet::align(s, c, k, st, left, rows, errors) {
         Err(Stop::Miss(st)) => st,
         done => return done,
     };
@@ -496,7 +463,7 @@ fn third(
 fn second(
     s: &[u8],
     c: Cursor,
-    k: cursor::Skip,
+    k: Skip,
     st: State,
     left: usize,
     rows: &mut [u32],
@@ -511,7 +478,7 @@ fn second(
         Err(Stop::Miss(st)) => st,
         done => return done,
     };
-    let st = match crate::quiet::calls(s, c, k, st, left, rows, errors) {
+    let st = match quiet::calls(s, c, k, st, left, rows, errors) {
         Err(Stop::Miss(st)) => st,
         done => return done,
     };
@@ -520,7 +487,7 @@ fn second(
         c,
         k,
         b".segment",
-        crate::Body::Maybe,
+        Body::Maybe,
         Kind::Segment,
         false,
         st,
@@ -549,8 +516,7 @@ pub fn statement(
     requires { Fit 0 s.now c st }
     ensures { Does statement s.now c st left (tables rows.old errors.old requests.old) (tables rows.new errors.new requests.new) result }
 {
-    let at = c.at;
-    let k = trivia::multiline_trivia(s, at, false);
+    let k = trivia::multiline_trivia(s, c.at, false);
     let st = match braces(s, c, k, st, left, rows, errors, requests) {
         Err(Stop::Miss(st)) => st,
         done => return done,
@@ -559,7 +525,7 @@ pub fn statement(
         Err(Stop::Miss(st)) => st,
         done => return done,
     };
-    let st = match crate::quiet::instructions(s, c, k, st, left, rows, errors) {
+    let st = match quiet::instructions(s, c, k, st, left, rows, errors) {
         Err(Stop::Miss(st)) => st,
         done => return done,
     };

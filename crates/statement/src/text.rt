@@ -2,6 +2,7 @@
 ghost use Rattle.std.specs.Prelude.{◌<◌};
 ghost use Rattle.reading.specs.Rules.{error, error_in_block, eof};
 ghost use Rattle.state.specs.Acts.{Fit, TellsLeaf};
+ghost use Rattle.trivia.specs.Class.{bit_of};
 ghost use Rattle.statement.specs.Shapes.{error_of};
 
 use crate::lift::lifted;
@@ -20,12 +21,10 @@ fn error_text(
     rows: &mut [u32],
     errors: &mut [u32],
 ) -> Done
-    requires fit { Fit 0 s.now c st }
-    requires class_bound { class < 8 }
-    ensures { TellsLeaf (error_of class) s.now c st rows.old rows.new errors.old errors.new result }
+    requires { Fit 0 s.now c st }
+    ensures { TellsLeaf (error_of (bit_of class)) s.now c st rows.old rows.new errors.old errors.new result }
 {
-    let at = c.at;
-    let k = trivia::multiline_trivia(s, at, false);
+    let k = trivia::multiline_trivia(s, c.at, false);
     let f = mark::run(
         s,
         Cursor { met: false, ..c },
@@ -36,9 +35,7 @@ fn error_text(
         rows,
     );
     let (d, x) = lifted(s, st, f, errors)?;
-    let low = k.at;
-    let high = d.at;
-    let y = state::report(x, 2, low, high, errors);
+    let y = state::report(x, 2, k.at, d.at, errors);
     Ok((d, y))
 }
 
@@ -61,8 +58,7 @@ pub fn eof(s: &[u8], c: Cursor, st: State, rows: &mut [u32], errors: &mut [u32])
     requires { Fit 0 s.now c st }
     ensures { TellsLeaf eof s.now c st rows.old rows.new errors.old errors.new result }
 {
-    let at = c.at;
-    let k = trivia::multiline_trivia(s, at, false);
+    let k = trivia::multiline_trivia(s, c.at, false);
     let f = mark::row(
         Cursor { met: false, ..c },
         k,

@@ -1,3 +1,5 @@
+use mathlib.Core.Path.{refl}
+use Rattle.std.proofs.lemmas.Result.{err_from_is_err_and}
 use Rattle.reading.specs.Rules.{expression}
 use Rattle.cursor.proofs.Laws.{reads_leaf}
 use Rattle.head.proofs.Steps.{seq_stop, seq_on}
@@ -6,15 +8,17 @@ use Rattle.head.specs.Heads.{char_of, assigned}
 use Rattle.head.proofs.Tests.{char_solid}
 use Rattle.head.proofs.definition.assigned.Goals as goal
 
-pub returns-in_default : goal.returns-in_default
+pub returns-in_err-d : goal.returns-in_err-d
 unfolding assigned char_of
-returns-in_default c = seq_stop (reads_leaf _ c.char-f.ensures) expression c.in_default.not-Got
+returns-in_err-d c =
+    let p = err_from_is_err_and c.from_residual.result c.from_residual.ensures.1 in
+    rw (p.1, p.2) (seq_stop (reads_leaf _ c.in_err-d.ensures) expression refl)
 
 pub expression-requires : goal.expression-requires
 expression-requires c =
-    (next (paid_up (char_solid 61)) c.requires (reads_leaf 0 c.char-f.ensures) c.in-Got.is).ready
+    (next (paid_up (char_solid 61)) c.requires (reads_leaf 0 c.in_ok-d.ensures) refl).ready
 
 pub returns : goal.returns
 unfolding assigned char_of
 returns c =
-    seq_on (reads_leaf _ c.char-f.ensures) (char_solid 61).quieted c.in-Got.is c.expression.ensures
+    seq_on (reads_leaf _ c.in_ok-d.ensures) (char_solid 61).quieted refl c.expression.ensures

@@ -1,3 +1,5 @@
+use mathlib.Core.Path.{refl}
+use Rattle.std.proofs.lemmas.Result.{err_from_is_err_and}
 use Rattle.reading.specs.Rules.{name}
 use Rattle.cursor.proofs.Laws.{reads_leaf}
 use Rattle.head.proofs.Steps.{seq_stop, seq_on}
@@ -8,19 +10,21 @@ use Rattle.reading.specs.Kind.{wordᵏ}
 use lib.Dec.{lit≤}
 use Rattle.head.proofs.definition.define_head.Goals as goal
 
-pub returns-in_default : goal.returns-in_default
+pub returns-in_err-d : goal.returns-in_err-d
 unfolding define_head directive_of word_of
-returns-in_default c = record { reads = λ left. seq_stop (c.directive-f.ensures.reads left) name c.in_default.not-Got }
+returns-in_err-d c =
+    let p = err_from_is_err_and c.from_residual.result c.from_residual.ensures.1 in
+    rw (p.1, p.2) (record { reads = λ left. seq_stop (c.in_err-d.ensures.reads left) name refl })
 
 pub name-requires : goal.name-requires
 unfolding directive_of
 name-requires c =
-    (next (paid_up (word_solid wordᵏ 0 _ (lit≤ tt))) c.requires.ready (c.directive-f.ensures.reads 0) c.in-Got.is).ready
+    (next (paid_up (word_solid wordᵏ 0 _ (lit≤ tt))) c.requires.ready (c.in_ok-d.ensures.reads 0) refl).ready
 
 pub returns : goal.returns
 unfolding define_head directive_of word_of
 returns c =
     record {
-      reads = λ left. seq_on (c.directive-f.ensures.reads left)
-          lines_quiet c.in-Got.is (reads_leaf left c.name.ensures);
+      reads = λ left. seq_on (c.in_ok-d.ensures.reads left)
+          lines_quiet refl (reads_leaf left c.name.ensures);
     }

@@ -1,3 +1,5 @@
+use mathlib.Core.Path.{refl}
+use Rattle.std.proofs.lemmas.Result.{err_from_is_err_and}
 use Rattle.reading.specs.Grammar.{empty}
 use Rattle.reading.specs.Rules.{multiline_trivia, colon, mname}
 use Rattle.cursor.proofs.Laws.{reads_leaf, skips_empty}
@@ -9,30 +11,31 @@ use Rattle.head.specs.Heads.{label_head}
 use lib.Dec.{lit≤}
 use Rattle.head.proofs.definition.label_head.Goals as goal
 
-pub returns-in_default : goal.returns-in_default
+pub returns-in_err-d : goal.returns-in_err-d
 unfolding label_head mname
-returns-in_default c =
-    record {
-      reads = λ left. seq_stop (reads_leaf left (c.name-f.ensures.leafs multiline_trivia
-          c.requires.skips)) colon c.in_default.not-Got;
-    }
+returns-in_err-d c =
+    let p = err_from_is_err_and c.from_residual.result c.from_residual.ensures.1 in
+    rw (p.1, p.2) (record {
+      reads = λ left. seq_stop (reads_leaf left (c.in_err-d.ensures.leafs multiline_trivia
+          c.requires.skips)) colon refl;
+    })
 
 pub char-requires : goal.char-requires
 unfolding mname
 char-requires c =
     let x = (next (paid_up mname_solid) c.requires.ready (reads_leaf
-    0 (c.name-f.ensures.leafs multiline_trivia
-    c.requires.skips)) c.in-Got.is
+    0 (c.in_ok-d.ensures.leafs multiline_trivia
+    c.requires.skips)) refl
     ).ready in
     placed x (lit≤ tt) (skips_empty _ _ _ x.within)
 
 pub returns : goal.returns
 unfolding label_head mname colon
 returns c =
-    let a = (c.name-f.ensures.leafs multiline_trivia c.requires.skips) in
-    let x = (next (paid_up mname_solid) c.requires.ready (reads_leaf 0 a) c.in-Got.is).ready in
+    let a = (c.in_ok-d.ensures.leafs multiline_trivia c.requires.skips) in
+    let x = (next (paid_up mname_solid) c.requires.ready (reads_leaf 0 a) refl).ready in
     let b = c.char.ensures.leafs empty (skips_empty _ _ _ x.within) in
     record {
-      reads = λ left. seq_on (reads_leaf left a) mname_solid.quieted c.in-Got.is
+      reads = λ left. seq_on (reads_leaf left a) mname_solid.quieted refl
           (reads_leaf left b);
     }

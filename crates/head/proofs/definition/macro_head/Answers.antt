@@ -1,3 +1,5 @@
+use mathlib.Core.Path.{refl}
+use Rattle.std.proofs.lemmas.Result.{err_from_is_err_and}
 use Rattle.cursor.proofs.Laws.{reads_leaf}
 use Rattle.lexis.proofs.Solids.{name_solid}
 use Rattle.head.proofs.Steps.{seq_stop, seq_on}
@@ -8,30 +10,33 @@ use Rattle.reading.specs.Kind.{wordᵏ}
 use lib.Dec.{lit≤}
 use Rattle.head.proofs.definition.macro_head.Goals as goal
 
-pub returns-in_default : goal.returns-in_default
+pub returns-in_err-d : goal.returns-in_err-d
 unfolding macro_head directive_of word_of
-returns-in_default c = record { reads = λ left. seq_stop (c.directive-f.ensures.reads left) _ c.in_default.not-Got }
+returns-in_err-d c =
+    let p = err_from_is_err_and c.from_residual.result c.from_residual.ensures.1 in
+    rw (p.1, p.2) (record { reads = λ left. seq_stop (c.in_err-d.ensures.reads left) _ refl })
 
-pub name-g-requires : goal.name-g-requires
+pub name-requires : goal.name-requires
 unfolding directive_of
-name-g-requires c =
-    (next (paid_up (word_solid wordᵏ 0 _ (lit≤ tt))) c.requires.ready (c.directive-f.ensures.reads 0) c.in-Got.is).ready
+name-requires c =
+    (next (paid_up (word_solid wordᵏ 0 _ (lit≤ tt))) c.requires.ready (c.in_ok-d.ensures.reads 0) refl).ready
 
-pub returns-in_default-g : goal.returns-in_default-g
+pub returns-in_err-e : goal.returns-in_err-e
 unfolding macro_head directive_of word_of
-returns-in_default-g c =
-    record {
+returns-in_err-e c =
+    let p = err_from_is_err_and c.from_residual-in_err-e.result c.from_residual-in_err-e.ensures.1 in
+    rw (p.1, p.2) (record {
       reads = λ left.
-          seq_on (c.directive-f.ensures.reads left) lines_quiet
-          c.in-Got.is
-          (seq_stop (reads_leaf left c.name-g.ensures) _ c.in_default-g.not-Got);
-    }
+          seq_on (c.in_ok-d.ensures.reads left) lines_quiet
+          refl
+          (seq_stop (reads_leaf left c.in_err-e.ensures) _ refl);
+    })
 
 pub parameters-requires : goal.parameters-requires
 unfolding directive_of
 parameters-requires c =
-    let d = (next (paid_up (word_solid wordᵏ 0 _ (lit≤ tt))) c.requires.ready (c.directive-f.ensures.reads 0) c.in-Got.is).ready in
-    (next (paid_up name_solid) d (reads_leaf 0 c.name-g.ensures) c.in-Got-g.is).ready
+    let d = (next (paid_up (word_solid wordᵏ 0 _ (lit≤ tt))) c.requires.ready (c.in_ok-d.ensures.reads 0) refl).ready in
+    (next (paid_up name_solid) d (reads_leaf 0 c.in_ok-e.ensures) refl).ready
 
 pub returns : goal.returns
 unfolding macro_head directive_of word_of
@@ -39,8 +44,8 @@ returns c =
     record {
       reads = λ left.
           seq_on
-          (c.directive-f.ensures.reads left) lines_quiet c.in-Got.is
-          (seq_on (reads_leaf left c.name-g.ensures) name_solid.quieted
-          c.in-Got-g.is
+          (c.in_ok-d.ensures.reads left) lines_quiet refl
+          (seq_on (reads_leaf left c.in_ok-e.ensures) name_solid.quieted
+          refl
           (c.parameters.ensures.reads left));
     }

@@ -1,3 +1,5 @@
+use mathlib.Core.Path.{refl}
+use Rattle.std.proofs.lemmas.Result.{err_from_is_err_and}
 use Rattle.reading.specs.Rules.{multiline_trivia, macro_invocation, mname, call_parens}
 use Rattle.cursor.proofs.Laws.{reads_leaf}
 use Rattle.head.proofs.Wholes.{over_stop}
@@ -7,25 +9,26 @@ use Rattle.reading.specs.Kind.{macro_invocationᵏ}
 use lib.Dec.{lit≤}
 use Rattle.head.proofs.definition.macro_invocation.Goals as goal
 
-pub returns-in_default : goal.returns-in_default
+pub returns-in_err-d : goal.returns-in_err-d
 unfolding macro_invocation mname
-returns-in_default c =
-    over_stop macro_invocationᵏ call_parens (reads_leaf _ (c.name-f.ensures.leafs multiline_trivia c.requires.skips)) c.in_default.not-Got
+returns-in_err-d c =
+    let p = err_from_is_err_and c.from_residual.result c.from_residual.ensures.1 in
+    rw (p.1, p.2) (over_stop macro_invocationᵏ call_parens (reads_leaf _ (c.in_err-d.ensures.leafs multiline_trivia c.requires.skips)) refl)
 
 pub call_parens-g-requires : goal.call_parens-g-requires
 unfolding mname
 call_parens-g-requires c =
-    rest_ready (name_begins (c.requires.ready, c.requires.skips)) (reads_leaf 0 (c.name-f.ensures.leafs multiline_trivia c.requires.skips))
-    c.in-Got.is
+    rest_ready (name_begins (c.requires.ready, c.requires.skips)) (reads_leaf 0 (c.in_ok-d.ensures.leafs multiline_trivia c.requires.skips))
+    refl
 
-pub whole-requires-clause-closable : goal.whole-requires-clause-closable
+pub whole-requires : goal.whole-requires
 unfolding mname
-whole-requires-clause-closable c = rest_closable (name_begins
-    (c.requires.ready, c.requires.skips)) (reads_leaf _ (c.name-f.ensures.leafs multiline_trivia c.requires.skips)) c.in-Got.is call_owing (lit≤ tt)
+whole-requires c = rest_closable (name_begins
+    (c.requires.ready, c.requires.skips)) (reads_leaf _ (c.in_ok-d.ensures.leafs multiline_trivia c.requires.skips)) refl call_owing (lit≤ tt)
     c.call_parens-g.ensures
 
 pub returns : goal.returns
 unfolding macro_invocation mname
 returns c =
-    rest_whole (name_begins (c.requires.ready, c.requires.skips)) (reads_leaf _ (c.name-f.ensures.leafs multiline_trivia c.requires.skips))
-    c.in-Got.is call_owing (lit≤ tt) c.call_parens-g.ensures macro_invocationᵏ c.whole.ensures
+    rest_whole (name_begins (c.requires.ready, c.requires.skips)) (reads_leaf _ (c.in_ok-d.ensures.leafs multiline_trivia c.requires.skips))
+    refl call_owing (lit≤ tt) c.call_parens-g.ensures macro_invocationᵏ c.whole.ensures

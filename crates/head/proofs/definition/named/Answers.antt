@@ -1,3 +1,5 @@
+use mathlib.Core.Path.{refl}
+use Rattle.std.proofs.lemmas.Result.{err_from_is_err_and}
 use Rattle.cursor.proofs.Laws.{reads_leaf}
 use Rattle.lexis.proofs.Solids.{name_solid}
 use Rattle.head.proofs.Steps.{seq_stop, seq_on}
@@ -5,15 +7,17 @@ use Rattle.head.proofs.Bounds.{paid_up, next}
 use Rattle.head.specs.Heads.{assigned, named}
 use Rattle.head.proofs.definition.named.Goals as goal
 
-pub returns-in_default : goal.returns-in_default
+pub returns-in_err-d : goal.returns-in_err-d
 unfolding named
-returns-in_default c = seq_stop (reads_leaf _ c.name-f.ensures) assigned c.in_default.not-Got
+returns-in_err-d c =
+    let p = err_from_is_err_and c.from_residual.result c.from_residual.ensures.1 in
+    rw (p.1, p.2) (seq_stop (reads_leaf _ c.in_err-d.ensures) assigned refl)
 
 pub assigned-requires : goal.assigned-requires
 assigned-requires c =
-    (next (paid_up name_solid) c.requires (reads_leaf 0 c.name-f.ensures) c.in-Got.is).ready
+    (next (paid_up name_solid) c.requires (reads_leaf 0 c.in_ok-d.ensures) refl).ready
 
 pub returns : goal.returns
 unfolding named
 returns c =
-    seq_on (reads_leaf _ c.name-f.ensures) name_solid.quieted c.in-Got.is c.assigned.ensures
+    seq_on (reads_leaf _ c.in_ok-d.ensures) name_solid.quieted refl c.assigned.ensures

@@ -1,3 +1,5 @@
+use mathlib.Core.Path.{refl}
+use Rattle.std.proofs.lemmas.Result.{err_from_is_err_and}
 use Rattle.cursor.proofs.Laws.{reads_leaf}
 use Rattle.head.proofs.Steps.{seq_stop, seq_on, reads_optional}
 use Rattle.head.proofs.Bounds.{paid_up, next}
@@ -5,29 +7,32 @@ use Rattle.head.specs.Heads.{char_of, parameters}
 use Rattle.head.proofs.Tests.{char_solid, names_owing}
 use Rattle.head.proofs.definition.parameters.Goals as goal
 
-pub returns-in_default : goal.returns-in_default
+pub returns-in_err-d : goal.returns-in_err-d
 unfolding parameters char_of
-returns-in_default c = record { reads = λ left. seq_stop (reads_leaf left c.char-f.ensures) _ c.in_default.not-Got }
+returns-in_err-d c =
+    let p = err_from_is_err_and c.from_residual.result c.from_residual.ensures.1 in
+    rw (p.1, p.2) (record { reads = λ left. seq_stop (reads_leaf left c.in_err-d.ensures) _ refl })
 
 pub identifier_arg_list-g-requires : goal.identifier_arg_list-g-requires
 identifier_arg_list-g-requires c =
-    (next (paid_up (char_solid 40)) c.requires (reads_leaf 0 c.char-f.ensures) c.in-Got.is).ready
+    (next (paid_up (char_solid 40)) c.requires (reads_leaf 0 c.in_ok-d.ensures) refl).ready
 
-pub returns-in_default-h : goal.returns-in_default-h
+pub returns-in_err-e : goal.returns-in_err-e
 unfolding parameters char_of
-returns-in_default-h c =
-    record {
+returns-in_err-e c =
+    let p = err_from_is_err_and c.from_residual-in_err-e.result c.from_residual-in_err-e.ensures.1 in
+    rw (p.1, p.2) (record {
       reads = λ left.
-          seq_on (reads_leaf left c.char-f.ensures)
-          (char_solid 40).quieted c.in-Got.is
-          (seq_stop (reads_optional (c.identifier_arg_list-g.ensures.reads left) c.optional-h.ensures) _
-          c.in_default-h.not-Got);
-    }
+          seq_on (reads_leaf left c.in_ok-d.ensures)
+          (char_solid 40).quieted refl
+          (seq_stop (reads_optional (c.identifier_arg_list-g.ensures.reads left) c.in_err-e.ensures) _
+          refl);
+    })
 
-pub char-requires : goal.char-requires
-char-requires c =
-    let d = (next (paid_up (char_solid 40)) c.requires (reads_leaf 0 c.char-f.ensures) c.in-Got.is).ready in
-    (next names_owing d (reads_optional (c.identifier_arg_list-g.ensures.reads 0) c.optional-h.ensures) c.in-Got-h.is).ready
+pub char-requires-2 : goal.char-requires-2
+char-requires-2 c =
+    let d = (next (paid_up (char_solid 40)) c.requires (reads_leaf 0 c.in_ok-d.ensures) refl).ready in
+    (next names_owing d (reads_optional (c.identifier_arg_list-g.ensures.reads 0) c.in_ok-e.ensures) refl).ready
 
 pub returns : goal.returns
 unfolding parameters char_of
@@ -35,10 +40,10 @@ returns c =
     record {
       reads = λ left.
           seq_on (reads_leaf left
-          c.char-f.ensures)
+          c.in_ok-d.ensures)
           (char_solid 40).quieted
-          c.in-Got.is
-          (seq_on (reads_optional (c.identifier_arg_list-g.ensures.reads left) c.optional-h.ensures) names_owing.quieted
-          c.in-Got-h.is
-          (reads_leaf left c.char.ensures));
+          refl
+          (seq_on (reads_optional (c.identifier_arg_list-g.ensures.reads left) c.in_ok-e.ensures) names_owing.quieted
+          refl
+          (reads_leaf left c.char-2.ensures));
     }

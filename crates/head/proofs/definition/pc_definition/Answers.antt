@@ -1,3 +1,5 @@
+use mathlib.Core.Path.{refl}
+use Rattle.std.proofs.lemmas.Result.{err_from_is_err_and}
 use Rattle.reading.specs.Rules.{multiline_trivia, pc_definition}
 use Rattle.cursor.proofs.Laws.{reads_leaf}
 use Rattle.head.proofs.Wholes.{over_stop}
@@ -8,23 +10,24 @@ use Rattle.reading.specs.Kind.{program_counter_definitionᵏ}
 use lib.Dec.{lit≤}
 use Rattle.head.proofs.definition.pc_definition.Goals as goal
 
-pub returns-in_default : goal.returns-in_default
+pub returns-in_err-d : goal.returns-in_err-d
 unfolding pc_definition assigned
-returns-in_default c =
-    over_stop program_counter_definitionᵏ assigned (reads_leaf _ (c.char-f.ensures.leafs multiline_trivia c.requires.skips)) c.in_default.not-Got
+returns-in_err-d c =
+    let p = err_from_is_err_and c.from_residual.result c.from_residual.ensures.1 in
+    rw (p.1, p.2) (over_stop program_counter_definitionᵏ assigned (reads_leaf _ (c.in_err-d.ensures.leafs multiline_trivia c.requires.skips)) refl)
 
 pub assigned-g-requires : goal.assigned-g-requires
 assigned-g-requires c =
-    rest_ready (char_begins (c.requires.ready, c.requires.skips) 42) (reads_leaf 0 (c.char-f.ensures.leafs multiline_trivia c.requires.skips))
-    c.in-Got.is
+    rest_ready (char_begins (c.requires.ready, c.requires.skips) 42) (reads_leaf 0 (c.in_ok-d.ensures.leafs multiline_trivia c.requires.skips))
+    refl
 
-pub whole-requires-clause-closable : goal.whole-requires-clause-closable
-whole-requires-clause-closable c = rest_closable (char_begins
-    (c.requires.ready, c.requires.skips) 42) (reads_leaf _ (c.char-f.ensures.leafs multiline_trivia c.requires.skips)) c.in-Got.is assigned_owing
+pub whole-requires : goal.whole-requires
+whole-requires c = rest_closable (char_begins
+    (c.requires.ready, c.requires.skips) 42) (reads_leaf _ (c.in_ok-d.ensures.leafs multiline_trivia c.requires.skips)) refl assigned_owing
     (lit≤ tt) c.assigned-g.ensures
 
 pub returns : goal.returns
 unfolding pc_definition assigned
 returns c =
-    rest_whole (char_begins (c.requires.ready, c.requires.skips) 42) (reads_leaf _ (c.char-f.ensures.leafs multiline_trivia c.requires.skips))
-    c.in-Got.is assigned_owing (lit≤ tt) c.assigned-g.ensures program_counter_definitionᵏ c.whole.ensures
+    rest_whole (char_begins (c.requires.ready, c.requires.skips) 42) (reads_leaf _ (c.in_ok-d.ensures.leafs multiline_trivia c.requires.skips))
+    refl assigned_owing (lit≤ tt) c.assigned-g.ensures program_counter_definitionᵏ c.whole.ensures

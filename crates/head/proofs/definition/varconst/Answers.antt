@@ -1,3 +1,5 @@
+use mathlib.Core.Path.{refl}
+use Rattle.std.proofs.lemmas.Result.{err_from_is_err_and}
 use Rattle.reading.specs.Rules.{multiline_trivia}
 use Rattle.cursor.proofs.Laws.{reads_leaf}
 use Rattle.head.proofs.Wholes.{over_stop}
@@ -8,10 +10,11 @@ use Rattle.reading.specs.Kind.{variable_typeᵏ, variable_definitionᵏ}
 use lib.Dec.{lit≤}
 use Rattle.head.proofs.definition.varconst.Goals as goal
 
-pub returns-in_default : goal.returns-in_default
+pub returns-in_err-d : goal.returns-in_err-d
 unfolding varconst word_of
-returns-in_default c =
-    over_stop variable_definitionᵏ named (reads_leaf _ (c.word-f.ensures.leafs multiline_trivia c.requires.skips)) c.in_default.not-Got
+returns-in_err-d c =
+    let p = err_from_is_err_and c.from_residual.result c.from_residual.ensures.1 in
+    rw (p.1, p.2) (over_stop variable_definitionᵏ named (reads_leaf _ (c.in_err-d.ensures.leafs multiline_trivia c.requires.skips)) refl)
 
 pub named-g-requires : goal.named-g-requires
 unfolding word_of
@@ -22,21 +25,21 @@ named-g-requires c =
     ) variable_typeᵏ
     c.args.detail _
     c.requires.in_bounds.0) (reads_leaf 0
-    (c.word-f.ensures.leafs multiline_trivia
-    c.requires.skips)) c.in-Got.is
+    (c.in_ok-d.ensures.leafs multiline_trivia
+    c.requires.skips)) refl
 
-pub whole-requires-clause-closable : goal.whole-requires-clause-closable
+pub whole-requires : goal.whole-requires
 unfolding word_of
-whole-requires-clause-closable c = rest_closable (word_begins (
+whole-requires c = rest_closable (word_begins (
   c.requires.ready,
   c.requires.skips,
 )
     variable_typeᵏ
     c.args.detail _
     c.requires.in_bounds.0)
-    (reads_leaf _ (c.word-f.ensures.leafs multiline_trivia
+    (reads_leaf _ (c.in_ok-d.ensures.leafs multiline_trivia
     c.requires.skips))
-    c.in-Got.is named_owing (lit≤ tt) c.named-g.ensures
+    refl named_owing (lit≤ tt) c.named-g.ensures
 
 pub returns : goal.returns
 unfolding varconst word_of
@@ -49,8 +52,8 @@ returns c =
     c.args.detail
     _
     c.requires.in_bounds.0)
-    (reads_leaf _ (c.word-f.ensures.leafs
+    (reads_leaf _ (c.in_ok-d.ensures.leafs
     multiline_trivia
     c.requires.skips))
-    c.in-Got.is named_owing (lit≤ tt)
+    refl named_owing (lit≤ tt)
     c.named-g.ensures variable_definitionᵏ c.whole.ensures

@@ -1,3 +1,5 @@
+use mathlib.Core.Path.{refl}
+use Rattle.std.proofs.lemmas.Result.{err_from_is_err_and}
 use Rattle.reading.specs.Rules.{expression, align}
 use Rattle.head.proofs.Wholes.{over_stop}
 use Rattle.head.specs.Heads.{word_of, directive_of}
@@ -7,23 +9,25 @@ use Rattle.reading.specs.Kind.{wordᵏ, alignᵏ}
 use lib.Dec.{lit≤}
 use Rattle.head.proofs.directive.align.Goals as goal
 
-pub returns-in_default : goal.returns-in_default
+pub returns-in_err-d : goal.returns-in_err-d
 unfolding align directive_of word_of
-returns-in_default c = over_stop alignᵏ expression (c.directive-f.ensures.reads _) c.in_default.not-Got
+returns-in_err-d c =
+    let p = err_from_is_err_and c.from_residual.result c.from_residual.ensures.1 in
+    rw (p.1, p.2) (over_stop alignᵏ expression (c.in_err-d.ensures.reads _) refl)
 
 pub expression-g-requires : goal.expression-g-requires
 unfolding directive_of
 expression-g-requires c =
-    rest_ready (word_begins (c.requires.ready, c.requires.skips) wordᵏ 0 _ (lit≤ tt)) (c.directive-f.ensures.reads 0) c.in-Got.is
+    rest_ready (word_begins (c.requires.ready, c.requires.skips) wordᵏ 0 _ (lit≤ tt)) (c.in_ok-d.ensures.reads 0) refl
 
-pub whole-requires-clause-closable : goal.whole-requires-clause-closable
+pub whole-requires : goal.whole-requires
 unfolding directive_of
-whole-requires-clause-closable c = rest_closable (word_begins
-    (c.requires.ready, c.requires.skips) wordᵏ 0 _ (lit≤ tt)) (c.directive-f.ensures.reads _) c.in-Got.is expression_owing (lit≤ tt)
+whole-requires c = rest_closable (word_begins
+    (c.requires.ready, c.requires.skips) wordᵏ 0 _ (lit≤ tt)) (c.in_ok-d.ensures.reads _) refl expression_owing (lit≤ tt)
     c.expression-g.ensures
 
 pub returns : goal.returns
 unfolding align directive_of word_of
 returns c =
-    rest_whole (word_begins (c.requires.ready, c.requires.skips) wordᵏ 0 _ (lit≤ tt)) (c.directive-f.ensures.reads _) c.in-Got.is expression_owing
+    rest_whole (word_begins (c.requires.ready, c.requires.skips) wordᵏ 0 _ (lit≤ tt)) (c.in_ok-d.ensures.reads _) refl expression_owing
     (lit≤ tt) c.expression-g.ensures alignᵏ c.whole.ensures

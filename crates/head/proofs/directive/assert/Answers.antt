@@ -1,3 +1,5 @@
+use mathlib.Core.Path.{refl}
+use Rattle.std.proofs.lemmas.Result.{err_from_is_err_and}
 use Rattle.head.proofs.Wholes.{over_stop}
 use Rattle.head.specs.Heads.{word_of, directive_of, asserted}
 use Rattle.head.proofs.Tests.{asserted_owing}
@@ -7,23 +9,25 @@ use lib.Dec.{lit≤}
 use Rattle.reading.specs.Rules.{assert}
 use Rattle.head.proofs.directive.assert.Goals as goal
 
-pub returns-in_default : goal.returns-in_default
+pub returns-in_err-d : goal.returns-in_err-d
 unfolding assert directive_of word_of asserted
-returns-in_default c = over_stop assertᵏ asserted (c.directive-f.ensures.reads _) c.in_default.not-Got
+returns-in_err-d c =
+    let p = err_from_is_err_and c.from_residual.result c.from_residual.ensures.1 in
+    rw (p.1, p.2) (over_stop assertᵏ asserted (c.in_err-d.ensures.reads _) refl)
 
 pub asserted-g-requires : goal.asserted-g-requires
 unfolding directive_of
 asserted-g-requires c =
-    rest_ready (word_begins (c.requires.ready, c.requires.skips) wordᵏ 0 _ (lit≤ tt)) (c.directive-f.ensures.reads 0) c.in-Got.is
+    rest_ready (word_begins (c.requires.ready, c.requires.skips) wordᵏ 0 _ (lit≤ tt)) (c.in_ok-d.ensures.reads 0) refl
 
-pub whole-requires-clause-closable : goal.whole-requires-clause-closable
+pub whole-requires : goal.whole-requires
 unfolding directive_of
-whole-requires-clause-closable c = rest_closable (word_begins
-    (c.requires.ready, c.requires.skips) wordᵏ 0 _ (lit≤ tt)) (c.directive-f.ensures.reads _) c.in-Got.is asserted_owing (lit≤ tt)
+whole-requires c = rest_closable (word_begins
+    (c.requires.ready, c.requires.skips) wordᵏ 0 _ (lit≤ tt)) (c.in_ok-d.ensures.reads _) refl asserted_owing (lit≤ tt)
     c.asserted-g.ensures
 
 pub returns : goal.returns
 unfolding assert directive_of word_of asserted
 returns c =
-    rest_whole (word_begins (c.requires.ready, c.requires.skips) wordᵏ 0 _ (lit≤ tt)) (c.directive-f.ensures.reads _) c.in-Got.is asserted_owing
+    rest_whole (word_begins (c.requires.ready, c.requires.skips) wordᵏ 0 _ (lit≤ tt)) (c.in_ok-d.ensures.reads _) refl asserted_owing
     (lit≤ tt) c.asserted-g.ensures assertᵏ c.whole.ensures

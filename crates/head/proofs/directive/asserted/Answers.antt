@@ -1,3 +1,5 @@
+use mathlib.Core.Path.{refl}
+use Rattle.std.proofs.lemmas.Result.{err_from_is_err_and}
 use Rattle.reading.specs.Rules.{opt, interpolated_string}
 use Rattle.cursor.proofs.Laws.{reads_leaf}
 use Rattle.head.proofs.Steps.{seq_stop, seq_on, reads_optional}
@@ -6,15 +8,17 @@ use Rattle.head.specs.Heads.{asserted}
 use Rattle.head.proofs.Tests.{expression_owing}
 use Rattle.head.proofs.directive.asserted.Goals as goal
 
-pub returns-in_default : goal.returns-in_default
+pub returns-in_err-d : goal.returns-in_err-d
 unfolding asserted
-returns-in_default c = seq_stop c.expression-f.ensures (opt interpolated_string) c.in_default.not-Got
+returns-in_err-d c =
+    let p = err_from_is_err_and c.from_residual.result c.from_residual.ensures.1 in
+    rw (p.1, p.2) (seq_stop c.in_err-d.ensures (opt interpolated_string) refl)
 
 pub string-g-requires : goal.string-g-requires
 string-g-requires c =
-    (next expression_owing c.requires c.expression-f.ensures c.in-Got.is).ready
+    (next expression_owing c.requires c.in_ok-d.ensures refl).ready
 
 pub returns : goal.returns
 unfolding asserted
 returns c =
-    seq_on c.expression-f.ensures expression_owing.quieted c.in-Got.is (reads_optional (reads_leaf _ c.string-g.ensures) c.optional.ensures)
+    seq_on c.in_ok-d.ensures expression_owing.quieted refl (reads_optional (reads_leaf _ c.string-g.ensures) c.optional.ensures)

@@ -1,3 +1,6 @@
+use mathlib.Core.Path.{ap, ◌∙◌}
+use Rattle.std.specs.Prelude.{Err}
+use native.Mathlib.Omega.{arith}
 use Rattle.reading.specs.Rules.{multiline_trivia, data_size}
 use Rattle.cursor.proofs.Laws.{reads_leaf}
 use Rattle.head.proofs.Steps.{or_stop, or_on, skip_again}
@@ -6,22 +9,28 @@ use Rattle.head.proofs.directive.data_head.Goals as goal
 
 pub returns-in_default : goal.returns-in_default
 unfolding data_size
-returns-in_default c =
-    record {
-      reads = λ left. or_stop (reads_leaf left (c.word-f.ensures.leafs multiline_trivia
-          c.requires.skips)) _ c.in_default.not-Miss;
-    }
+returns-in_default c = record {
+  reads = λ left. or_stop (reads_leaf left (c.in_default.ensures.leafs multiline_trivia
+      c.requires.skips)) _ (λ m e. grind arith);
+}
+
+pub returns-in_default-2 : goal.returns-in_default-2
+unfolding data_size
+returns-in_default-2 c = record {
+  reads = λ left. or_stop (reads_leaf left (c.word.ensures.leafs multiline_trivia
+      c.requires.skips)) _ (λ m e. grind arith);
+}
 
 pub wide_size-requires-clause-skips : goal.wide_size-requires-clause-skips
 wide_size-requires-clause-skips c =
-    let a = c.word-f.ensures.leafs multiline_trivia c.requires.skips in
-    skip_again c.requires.skips (reads_leaf 0 a) c.in-Miss.is
+    let a = c.word.ensures.leafs multiline_trivia c.requires.skips in
+    skip_again c.requires.skips (reads_leaf 0 a) (c.in-Err-Miss.is ∙ ap Err c.in-Err-Miss.field-0-is)
 
 pub returns : goal.returns
 unfolding data_size wide_size
 returns c =
-    let a = c.word-f.ensures.leafs multiline_trivia c.requires.skips in
+    let a = c.word.ensures.leafs multiline_trivia c.requires.skips in
     record {
-      reads = λ left. or_on (reads_leaf left a) c.in-Miss.is
+      reads = λ left. or_on (reads_leaf left a) (c.in-Err-Miss.is ∙ ap Err c.in-Err-Miss.field-0-is)
           (c.wide_size.ensures.reads left);
     }

@@ -1,3 +1,5 @@
+use mathlib.Core.Path.{refl}
+use Rattle.std.proofs.lemmas.Result.{err_from_is_err_and}
 use Rattle.reading.specs.Rules.{expression}
 use Rattle.cursor.proofs.Laws.{reads_leaf}
 use Rattle.head.proofs.Steps.{seq_stop, seq_on}
@@ -5,13 +7,15 @@ use Rattle.head.proofs.Bounds.{paid_up, next}
 use Rattle.head.proofs.Tests.{encoding_solid}
 use Rattle.head.proofs.directive.encoding_expression.Goals as goal
 
-pub returns-in_default : goal.returns-in_default
-returns-in_default c = seq_stop (reads_leaf _ c.encoding-f.ensures) expression c.in_default.not-Got
+pub returns-in_err-d : goal.returns-in_err-d
+returns-in_err-d c =
+    let p = err_from_is_err_and c.from_residual.result c.from_residual.ensures.1 in
+    rw (p.1, p.2) (seq_stop (reads_leaf _ c.in_err-d.ensures) expression refl)
 
 pub expression-requires : goal.expression-requires
 expression-requires c =
-    (next (paid_up encoding_solid) c.requires (reads_leaf 0 c.encoding-f.ensures) c.in-Got.is).ready
+    (next (paid_up encoding_solid) c.requires (reads_leaf 0 c.in_ok-d.ensures) refl).ready
 
 pub returns : goal.returns
 returns c =
-    seq_on (reads_leaf _ c.encoding-f.ensures) encoding_solid.quieted c.in-Got.is c.expression.ensures
+    seq_on (reads_leaf _ c.in_ok-d.ensures) encoding_solid.quieted refl c.expression.ensures

@@ -1,3 +1,5 @@
+use mathlib.Core.Path.{refl}
+use Rattle.std.proofs.lemmas.Result.{err_from_is_err_and}
 use mathlib.Core.Bool.{true}
 use Rattle.reading.specs.Rules.{interpolated_string, file}
 use Rattle.cursor.proofs.Laws.{reads_leaf}
@@ -9,19 +11,21 @@ use Rattle.reading.specs.Kind.{wordᵏ, fileᵏ}
 use lib.Dec.{lit≤}
 use Rattle.head.proofs.directive.file.Goals as goal
 
-pub returns-in_default : goal.returns-in_default
+pub returns-in_err-d : goal.returns-in_err-d
 unfolding file directive_of word_of
-returns-in_default c = record { reads = λ left. over_stop fileᵏ interpolated_string (c.directive-f.ensures.reads left) c.in_default.not-Got }
+returns-in_err-d c =
+    let p = err_from_is_err_and c.from_residual.result c.from_residual.ensures.1 in
+    rw (p.1, p.2) (record { reads = λ left. over_stop fileᵏ interpolated_string (c.in_err-d.ensures.reads left) refl })
 
 pub string-g-requires : goal.string-g-requires
 unfolding directive_of
 string-g-requires c =
-    rest_ready (word_begins (c.requires.ready, c.requires.skips) wordᵏ 0 _ (lit≤ tt)) (c.directive-f.ensures.reads 0) c.in-Got.is
+    rest_ready (word_begins (c.requires.ready, c.requires.skips) wordᵏ 0 _ (lit≤ tt)) (c.in_ok-d.ensures.reads 0) refl
 
-pub whole-requires-clause-closable : goal.whole-requires-clause-closable
+pub whole-requires : goal.whole-requires
 unfolding directive_of
-whole-requires-clause-closable c = rest_closable (word_begins
-    (c.requires.ready, c.requires.skips) wordᵏ 0 _ (lit≤ tt)) (c.directive-f.ensures.reads 0) c.in-Got.is (string_owing true) (lit≤ tt) (reads_leaf 0
+whole-requires c = rest_closable (word_begins
+    (c.requires.ready, c.requires.skips) wordᵏ 0 _ (lit≤ tt)) (c.in_ok-d.ensures.reads 0) refl (string_owing true) (lit≤ tt) (reads_leaf 0
     c.string-g.ensures)
 
 pub returns : goal.returns
@@ -31,8 +35,8 @@ returns c =
     record {
       reads = λ left.
           rest_whole b
-          (c.directive-f.ensures.reads
-          left) c.in-Got.is
+          (c.in_ok-d.ensures.reads
+          left) refl
           (string_owing true) (lit≤ tt) (reads_leaf left c.string-g.ensures) fileᵏ
           c.whole.ensures;
     }

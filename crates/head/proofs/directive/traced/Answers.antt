@@ -1,3 +1,5 @@
+use mathlib.Core.Path.{refl}
+use Rattle.std.proofs.lemmas.Result.{err_from_is_err_and}
 use Rattle.cursor.proofs.Laws.{reads_leaf}
 use Rattle.head.proofs.Steps.{seq_stop, seq_on, reads_optional}
 use Rattle.head.proofs.Bounds.{paid_up, next, past}
@@ -5,34 +7,37 @@ use Rattle.head.specs.Heads.{char_of, traced}
 use Rattle.head.proofs.Tests.{char_solid, arguments_owing}
 use Rattle.head.proofs.directive.traced.Goals as goal
 
-pub returns-in_default : goal.returns-in_default
+pub returns-in_err-d : goal.returns-in_err-d
 unfolding traced char_of
-returns-in_default c = seq_stop (reads_leaf _ c.char-f.ensures) _ c.in_default.not-Got
+returns-in_err-d c =
+    let p = err_from_is_err_and c.from_residual.result c.from_residual.ensures.1 in
+    rw (p.1, p.2) (seq_stop (reads_leaf _ c.in_err-d.ensures) _ refl)
 
 pub expression_arg_list-g-requires-clause-le_at : goal.expression_arg_list-g-requires-clause-le_at
 expression_arg_list-g-requires-clause-le_at c =
-    let a = reads_leaf 0 c.char-f.ensures in
-    past (char_solid 40) c.requires a c.in-Got.is
+    let a = reads_leaf 0 c.in_ok-d.ensures in
+    past (char_solid 40) c.requires a refl
 
 pub expression_arg_list-g-requires-clause-ready : goal.expression_arg_list-g-requires-clause-ready
 expression_arg_list-g-requires-clause-ready c =
-    let a = reads_leaf 0 c.char-f.ensures in
-    (next (paid_up (char_solid 40)) c.requires a c.in-Got.is).ready
+    let a = reads_leaf 0 c.in_ok-d.ensures in
+    (next (paid_up (char_solid 40)) c.requires a refl).ready
 
-pub returns-in_default-h : goal.returns-in_default-h
+pub returns-in_err-e : goal.returns-in_err-e
 unfolding traced char_of
-returns-in_default-h c =
-    seq_on (reads_leaf _ c.char-f.ensures) (char_solid 40
-    ).quieted c.in-Got.is
-    (seq_stop (reads_optional c.expression_arg_list-g.ensures c.optional-h.ensures) _ c.in_default-h.not-Got)
+returns-in_err-e c =
+    let p = err_from_is_err_and c.from_residual-in_err-e.result c.from_residual-in_err-e.ensures.1 in
+    rw (p.1, p.2) (seq_on (reads_leaf _ c.in_ok-d.ensures) (char_solid 40
+    ).quieted refl
+    (seq_stop (reads_optional c.expression_arg_list-g.ensures c.in_err-e.ensures) _ refl))
 
-pub char-requires : goal.char-requires
-char-requires c =
-    let d = (next (paid_up (char_solid 40)) c.requires (reads_leaf 0 c.char-f.ensures) c.in-Got.is).ready in
-    (next arguments_owing d (reads_optional c.expression_arg_list-g.ensures c.optional-h.ensures) c.in-Got-h.is).ready
+pub char-requires-2 : goal.char-requires-2
+char-requires-2 c =
+    let d = (next (paid_up (char_solid 40)) c.requires (reads_leaf 0 c.in_ok-d.ensures) refl).ready in
+    (next arguments_owing d (reads_optional c.expression_arg_list-g.ensures c.in_ok-e.ensures) refl).ready
 
 pub returns : goal.returns
 unfolding traced char_of
 returns c =
-    seq_on (reads_leaf _ c.char-f.ensures) (char_solid 40).quieted c.in-Got.is
-    (seq_on (reads_optional c.expression_arg_list-g.ensures c.optional-h.ensures) arguments_owing.quieted c.in-Got-h.is (reads_leaf _ c.char.ensures))
+    seq_on (reads_leaf _ c.in_ok-d.ensures) (char_solid 40).quieted refl
+    (seq_on (reads_optional c.expression_arg_list-g.ensures c.in_ok-e.ensures) arguments_owing.quieted refl (reads_leaf _ c.char-2.ensures))

@@ -1,3 +1,5 @@
+use mathlib.Core.Path.{refl}
+use Rattle.std.proofs.lemmas.Result.{err_from_is_err_and}
 use Rattle.reading.specs.Rules.{as'}
 use Rattle.cursor.proofs.Laws.{reads_leaf}
 use Rattle.head.proofs.Steps.{seq_stop, seq_on}
@@ -6,18 +8,20 @@ use Rattle.head.specs.Heads.{char_of}
 use Rattle.head.proofs.Tests.{char_solid}
 use Rattle.head.proofs.import.all.Goals as goal
 
-pub returns-in_default : goal.returns-in_default
+pub returns-in_err-d : goal.returns-in_err-d
 unfolding char_of
-returns-in_default c = record { reads = λ left. seq_stop (reads_leaf left c.char-f.ensures) as' c.in_default.not-Got }
+returns-in_err-d c =
+    let p = err_from_is_err_and c.from_residual.result c.from_residual.ensures.1 in
+    rw (p.1, p.2) (record { reads = λ left. seq_stop (reads_leaf left c.in_err-d.ensures) as' refl })
 
 pub renamed-requires : goal.renamed-requires
 renamed-requires c =
-    (next (paid_up (char_solid 42)) c.requires (reads_leaf 0 c.char-f.ensures) c.in-Got.is).ready
+    (next (paid_up (char_solid 42)) c.requires (reads_leaf 0 c.in_ok-d.ensures) refl).ready
 
 pub returns : goal.returns
 unfolding char_of
 returns c =
     record {
-      reads = λ left. seq_on (reads_leaf left c.char-f.ensures)
-          (char_solid 42).quieted c.in-Got.is (c.renamed.ensures.reads left);
+      reads = λ left. seq_on (reads_leaf left c.in_ok-d.ensures)
+          (char_solid 42).quieted refl (c.renamed.ensures.reads left);
     }

@@ -1,3 +1,5 @@
+use mathlib.Core.Path.{refl}
+use Rattle.std.proofs.lemmas.Result.{err_from_is_err_and}
 use Rattle.reading.specs.Rules.{multiline_trivia}
 use Rattle.cursor.proofs.Laws.{reads_leaf}
 use Rattle.lexis.proofs.Marks.{placed}
@@ -8,17 +10,19 @@ use Rattle.head.proofs.Tests.{import_args_owing}
 use lib.Dec.{lit≤}
 use Rattle.head.proofs.import.import_names.Goals as goal
 
-pub returns-in_default : goal.returns-in_default
+pub returns-in_err-d : goal.returns-in_err-d
 unfolding import_names
-returns-in_default c = record { reads = λ left. seq_stop (c.import_args-f.ensures.reads left) _ c.in_default.not-Got }
+returns-in_err-d c =
+    let p = err_from_is_err_and c.from_residual.result c.from_residual.ensures.1 in
+    rw (p.1, p.2) (record { reads = λ left. seq_stop (c.in_err-d.ensures.reads left) _ refl })
 
 pub multiline_trivia-k-requires : goal.multiline_trivia-k-requires
 multiline_trivia-k-requires c =
-    (next import_args_owing c.requires (c.import_args-f.ensures.reads 0) c.in-Got.is).ready.within
+    (next import_args_owing c.requires (c.in_ok-d.ensures.reads 0) refl).ready.within
 
 pub word-requires-clause-placed : goal.word-requires-clause-placed
 word-requires-clause-placed c =
-    let d = (next import_args_owing c.requires (c.import_args-f.ensures.reads 0) c.in-Got.is).ready in placed d (lit≤ tt) c.multiline_trivia-k.ensures
+    let d = (next import_args_owing c.requires (c.in_ok-d.ensures.reads 0) refl).ready in placed d (lit≤ tt) c.multiline_trivia-k.ensures
 
 pub returns : goal.returns
 unfolding import_names
@@ -26,6 +30,6 @@ returns c =
     let b = c.word.ensures.leafs multiline_trivia c.multiline_trivia-k.ensures in
     record {
       reads = λ left. seq_on
-          (c.import_args-f.ensures.reads left)
-          import_args_owing.quieted c.in-Got.is (reads_leaf left b);
+          (c.in_ok-d.ensures.reads left)
+          import_args_owing.quieted refl (reads_leaf left b);
     }

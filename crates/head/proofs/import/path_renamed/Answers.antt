@@ -1,3 +1,5 @@
+use mathlib.Core.Path.{refl}
+use Rattle.std.proofs.lemmas.Result.{err_from_is_err_and}
 use Rattle.reading.specs.Rules.{as'}
 use Rattle.cursor.proofs.Laws.{reads_leaf}
 use Rattle.lexis.proofs.Solids.{path_solid}
@@ -5,16 +7,18 @@ use Rattle.head.proofs.Steps.{seq_stop, seq_on}
 use Rattle.head.proofs.Bounds.{paid_up, next}
 use Rattle.head.proofs.import.path_renamed.Goals as goal
 
-pub returns-in_default : goal.returns-in_default
-returns-in_default c = record { reads = λ left. seq_stop (reads_leaf left c.path-f.ensures) as' c.in_default.not-Got }
+pub returns-in_err-d : goal.returns-in_err-d
+returns-in_err-d c =
+    let p = err_from_is_err_and c.from_residual.result c.from_residual.ensures.1 in
+    rw (p.1, p.2) (record { reads = λ left. seq_stop (reads_leaf left c.in_err-d.ensures) as' refl })
 
 pub renamed-requires : goal.renamed-requires
 renamed-requires c =
-    (next (paid_up path_solid) c.requires (reads_leaf 0 c.path-f.ensures) c.in-Got.is).ready
+    (next (paid_up path_solid) c.requires (reads_leaf 0 c.in_ok-d.ensures) refl).ready
 
 pub returns : goal.returns
 returns c =
     record {
-      reads = λ left. seq_on (reads_leaf left c.path-f.ensures)
-          path_solid.quieted c.in-Got.is (c.renamed.ensures.reads left);
+      reads = λ left. seq_on (reads_leaf left c.in_ok-d.ensures)
+          path_solid.quieted refl (c.renamed.ensures.reads left);
     }

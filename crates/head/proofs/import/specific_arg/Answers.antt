@@ -7,8 +7,8 @@ use lib.Dec.{lit≤}
 use Rattle.reading.specs.Rules.{specific_arg}
 use Rattle.head.proofs.import.specific_arg.Goals as goal
 
-pub whole-requires-clause-closable : goal.whole-requires-clause-closable
-whole-requires-clause-closable c = closable renamed_owing (lit≤ tt) c.requires c.trivia-k.ensures (behind_ready
+pub whole-requires : goal.whole-requires
+whole-requires c = closable renamed_owing (lit≤ tt) c.requires c.trivia-k.ensures (behind_ready
     c.requires c.trivia-k.ensures) (omega arith) (c.path_renamed-f.ensures.reads 0)
 
 pub returns : goal.returns

@@ -1,3 +1,6 @@
+use mathlib.Core.Path.{refl, ap, ◌∙◌}
+use Rattle.std.specs.Prelude.{Err}
+use Rattle.std.proofs.lemmas.Result.{err_from_is_err_and}
 use native.Mathlib.Omega.{arith}
 use Rattle.cursor.proofs.Laws.{stepped, leaf_deep}
 use Rattle.cursor.proofs.Loops.{listed_none, list_out, list_step, list_last, list_more}
@@ -8,48 +11,49 @@ use Rattle.head.proofs.Tests.{char_solid, specific_solid, specific_comma_solid}
 use Rattle.reading.specs.Rules.{specific_arg}
 use Rattle.head.proofs.import.specific_args.Goals as goal
 
-pub loop-d-init : goal.loop-d-init
-loop-d-init c = λ left. listed_none specific_arg (char_of 44) _ left _ _ _ _ c.requires.within
+pub loop-last-init : goal.loop-last-init
+loop-last-init c = λ left. listed_none specific_arg (char_of 44) _ left _ _ _ _ c.requires.within
 
-pub specific_arg-f-requires : goal.specific_arg-f-requires
-specific_arg-f-requires c = progress_ready (c.loop-d.invariant 0).progress c.requires
+pub specific_arg-requires : goal.specific_arg-requires
+specific_arg-requires c = progress_ready (c.loop-last.invariant 0).progress c.requires
 
-pub returns-in_default : goal.returns-in_default
+pub returns-in_err-last : goal.returns-in_err-last
 unfolding char_of
-returns-in_default c =
-    record {
-      reads = λ left. list_out (c.loop-d.invariant left)
-          (c.specific_arg-f.ensures.reads left) c.in_default.not-Got;
-    }
+returns-in_err-last c =
+    let p = err_from_is_err_and c.from_residual.result c.from_residual.ensures.1 in
+    rw (p.1, p.2) (record {
+      reads = λ left. list_out (c.loop-last.invariant left)
+          (c.in_err-last.ensures.reads left) refl;
+    })
 
-pub char-g-requires : goal.char-g-requires
-char-g-requires c =
-    (next (paid_up specific_solid) (progress_ready (c.loop-d.invariant 0
+pub char-requires : goal.char-requires
+char-requires c =
+    (next (paid_up specific_solid) (progress_ready (c.loop-last.invariant 0
     ).progress c.requires)
-    (c.specific_arg-f.ensures.reads 0)
-    c.in-Got.is).ready
+    (c.in_ok-last.ensures.reads 0)
+    refl).ready
 
-pub loop-d-smaller : goal.loop-d-smaller
-loop-d-smaller c =
-    let a = list_step (c.loop-d.invariant 0) (c.specific_arg-f.ensures.reads 0) specific_solid _ c.in-Got.is in
-    let b = stepped (char_solid 44) _ a.within (c.char-g.ensures.reading 0 0) c.in-Got-g.is in
+pub loop-last-smaller : goal.loop-last-smaller
+loop-last-smaller c =
+    let a = list_step (c.loop-last.invariant 0) (c.in_ok-last.ensures.reads 0) specific_solid _ refl in
+    let b = stepped (char_solid 44) _ a.within (c.char.ensures.reading 0 0) c.in-Ok.is in
     omega (arith, a.on, b.on, b.within)
 
-pub loop-d-preserved : goal.loop-d-preserved
-loop-d-preserved c =
-    λ left. list_more (c.loop-d.invariant left) (c.specific_arg-f.ensures.reads left) specific_solid _ c.in-Got.is c.char-g.ensures
-    specific_comma_solid _ c.in-Got-g.is c.specific_arg-f.auto.rows c.char-g.auto.rows
+pub loop-last-preserved : goal.loop-last-preserved
+loop-last-preserved c =
+    λ left. list_more (c.loop-last.invariant left) (c.in_ok-last.ensures.reads left) specific_solid _ refl c.char.ensures
+    specific_comma_solid _ c.in-Ok.is c.specific_arg.auto.rows c.char.auto.rows
 
-pub returns-in-Miss : goal.returns-in-Miss
+pub returns-in-Err-Miss : goal.returns-in-Err-Miss
 unfolding char_of
-returns-in-Miss c =
+returns-in-Err-Miss c =
     record {
       reads = λ left. list_last
-          (c.loop-d.invariant
+          (c.loop-last.invariant
           left)
-          (c.specific_arg-f.ensures.reads left) specific_solid _ c.in-Got.is
-          c.char-g.ensures _ c.in-Miss.is;
+          (c.in_ok-last.ensures.reads left) specific_solid _ refl
+          c.char.ensures _ (c.in-Err-Miss.is ∙ ap Err c.in-Err-Miss.field-0-is);
     }
 
-pub returns-in-Deep : goal.returns-in-Deep
-returns-in-Deep c = absurd (leaf_deep c.char-g.ensures c.in-Deep.is)
+pub returns-in-Err-Deep : goal.returns-in-Err-Deep
+returns-in-Err-Deep c = absurd (leaf_deep c.char.ensures (c.in-Err-Deep.is ∙ ap Err c.in-Err-Deep.field-0-is))

@@ -1,15 +1,15 @@
-use mathlib.Core.Path.{sym, ap}
+use Rattle.std.proofs.Common.{rules}
 use Rattle.head.specs.Parts.{tried}
 use Rattle.head.proofs.instruction.tried.Goals as goal
 
-pub returns-in-Got : goal.returns-in-Got
+pub returns-in-Ok : goal.returns-in-Ok
 unfolding tried
-returns-in-Got c = sym (ap (tried c.args.c) c.in-Got.is)
+returns-in-Ok c = search rules
 
-pub returns-in-Miss : goal.returns-in-Miss
+pub returns-in-Err-Miss : goal.returns-in-Err-Miss
 unfolding tried
-returns-in-Miss c = sym (ap (tried c.args.c) c.in-Miss.is)
+returns-in-Err-Miss c = search rules
 
-pub returns-in-Deep : goal.returns-in-Deep
+pub returns-in-Err-Deep : goal.returns-in-Err-Deep
 unfolding tried
-returns-in-Deep c = sym (ap (tried c.args.c) c.in-Deep.is)
+returns-in-Err-Deep c = search rules

@@ -1,3 +1,5 @@
+use mathlib.Core.Path.{refl}
+use Rattle.std.proofs.lemmas.Result.{err_from_is_err_and}
 use mathlib.Core.Bool.{false}
 use Rattle.reading.specs.Rules.{opt, multiline_trivia, operand}
 use Rattle.cursor.proofs.Laws.{reads_leaf}
@@ -10,24 +12,25 @@ use Rattle.reading.specs.Kind.{instructionᵏ}
 use lib.Dec.{lit≤}
 use Rattle.head.proofs.instruction.with_operand.Goals as goal
 
-pub returns-in_default : goal.returns-in_default
+pub returns-in_err-d : goal.returns-in_err-d
 unfolding with_operand
-returns-in_default c =
-    over_stop instructionᵏ (opt operand) (reads_leaf _ (c.mnemonic-f.ensures.leafs multiline_trivia c.requires.skips)) c.in_default.not-Got
+returns-in_err-d c =
+    let p = err_from_is_err_and c.from_residual.result c.from_residual.ensures.1 in
+    rw (p.1, p.2) (over_stop instructionᵏ (opt operand) (reads_leaf _ (c.in_err-d.ensures.leafs multiline_trivia c.requires.skips)) refl)
 
 pub operand-g-requires : goal.operand-g-requires
 operand-g-requires c =
     rest_ready (mnemonic_begins (c.requires.ready, c.requires.skips) false)
-    (reads_leaf 0 (c.mnemonic-f.ensures.leafs multiline_trivia c.requires.skips)) c.in-Got.is
+    (reads_leaf 0 (c.in_ok-d.ensures.leafs multiline_trivia c.requires.skips)) refl
 
-pub whole-requires-clause-closable : goal.whole-requires-clause-closable
-whole-requires-clause-closable c = rest_closable (mnemonic_begins
-    (c.requires.ready, c.requires.skips) false) (reads_leaf _ (c.mnemonic-f.ensures.leafs multiline_trivia c.requires.skips)) c.in-Got.is
+pub whole-requires : goal.whole-requires
+whole-requires c = rest_closable (mnemonic_begins
+    (c.requires.ready, c.requires.skips) false) (reads_leaf _ (c.in_ok-d.ensures.leafs multiline_trivia c.requires.skips)) refl
     operand_owing (lit≤ tt) (reads_optional c.operand-g.ensures c.optional-h.ensures)
 
 pub returns : goal.returns
 unfolding with_operand
 returns c =
     rest_whole (mnemonic_begins (c.requires.ready, c.requires.skips) false)
-    (reads_leaf _ (c.mnemonic-f.ensures.leafs multiline_trivia c.requires.skips)) c.in-Got.is operand_owing (lit≤ tt)
+    (reads_leaf _ (c.in_ok-d.ensures.leafs multiline_trivia c.requires.skips)) refl operand_owing (lit≤ tt)
     (reads_optional c.operand-g.ensures c.optional-h.ensures) instructionᵏ c.whole.ensures

@@ -1,8 +1,15 @@
-use Rattle.head.proofs.Steps.{optional_kept, optional_none}
+use Rattle.std.proofs.Common.{rules}
+use Rattle.head.specs.Parts.{optional}
 use Rattle.head.proofs.part.optional.Goals as goal
 
-pub returns-in_default : goal.returns-in_default
-returns-in_default c = optional_kept c.args.c c.args.f c.in_default.not-Miss
+pub returns-in-Err-Miss : goal.returns-in-Err-Miss
+unfolding optional
+returns-in-Err-Miss c = search rules
 
-pub returns : goal.returns
-returns c = optional_none c.args.c c.in-Miss.is
+pub returns-in_default : goal.returns-in_default
+unfolding optional
+returns-in_default c = search rules
+
+pub returns-in_default-2 : goal.returns-in_default-2
+unfolding optional
+returns-in_default-2 c = search rules
