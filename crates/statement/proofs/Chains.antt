@@ -15,8 +15,7 @@ use Rattle.table.specs.Words.{pushed, row_record}
 use Rattle.cursor.specs.Text.{cursor}
 use Rattle.cursor.specs.declared.Cursor.{Cursor}
 use Rattle.state.specs.declared.State.{State as Counts}
-use Rattle.state.specs.declared.Done.{Done}
-use Rattle.state.specs.declared.Done.TheVariants.{Got, Miss, Deep}
+use Rattle.state.specs.Done.{Done}
 use Rattle.state.specs.Acts.{Tables, tables, Does, TellsLeaf, Closes, opening, Fit}
 use Rattle.state.proofs.Laws.{rule_is, seq_out, seq_got, or_first, or_miss, opt_first, opt_miss}
 use Rattle.state.proofs.Bounds.{sober, acted, moved, fit_got, fit_miss}
@@ -28,39 +27,41 @@ use Rattle.statement.specs.Heads.{from_macro, from_loop, from_import}
 use Rattle.head.specs.Heads.{word_of, directive_of}
 use Rattle.statement.proofs.Same.{Same, does_same, same_then, or_same, or_assoc}
 use Rattle.statement.proofs.Tests.{Paid, mark_paid, mark_moves, items_paid}
+use Rattle.cursor.specs.declared.Stop.TheVariants.{Miss, Deep}
+use Rattle.std.specs.Prelude.{Ok, Err, IsErr}
 
 -- One after the other ------------------------------------------------------
 
 module _ {m : Parser} {s : List ℕ} {c : Cursor} {st : Counts} {left : ℕ} {T T₁ : Tables} {r : Done} (a : Does m s c st left T T₁ r) where
-  pub does_first : {n : Parser} → ((x : Counts) → r ≡ Miss x → ⊥) → Does (m or n) s c st left T T₁ r
+  pub does_first : {n : Parser} → ((x : Counts) → r ≡ Err (Miss x) → ⊥) → Does (m or n) s c st left T T₁ r
   does_first {n} h = record { acting = λ l. or_first (a.acting l) n h }
 
-  pub does_next : {n : Parser} (x : Counts) → r ≡ Miss x → {T₂ : Tables} {r₂ : Done} → Does n s c x left T₁ T₂ r₂ → Does (m or n) s c st left T T₂ r₂
+  pub does_next : {n : Parser} (x : Counts) → r ≡ Err (Miss x) → {T₂ : Tables} {r₂ : Done} → Does n s c x left T₁ T₂ r₂ → Does (m or n) s c st left T T₂ r₂
   does_next {n} x q b = record { acting = λ l. or_miss (a.acting l) n x q (b.acting l) }
 
-  pub does_out : {n : Parser} → ((d : Cursor) (x : Counts) → r ≡ Got d x → ⊥) → Does (m ▸ n) s c st left T T₁ r
+  pub does_out : {n : Parser} → IsErr r → Does (m ▸ n) s c st left T T₁ r
   does_out {n} h = record { acting = λ l. seq_out (a.acting l) n h }
 
-  pub does_then : {n : Parser} (d : Cursor) (x : Counts) → r ≡ Got d x → {T₂ : Tables} {r₂ : Done} → Does n s d x left T₁ T₂ r₂ → Does (m ▸ n) s c st left T T₂ r₂
+  pub does_then : {n : Parser} (d : Cursor) (x : Counts) → r ≡ Ok (d, x) → {T₂ : Tables} {r₂ : Done} → Does n s d x left T₁ T₂ r₂ → Does (m ▸ n) s c st left T T₂ r₂
   does_then {n} d x q b = record { acting = λ l. seq_got (a.acting l) n d x q (b.acting l) }
 
-  pub does_opt : ((x : Counts) → r ≡ Miss x → ⊥) → Does (opt m) s c st left T T₁ r
+  pub does_opt : ((x : Counts) → r ≡ Err (Miss x) → ⊥) → Does (opt m) s c st left T T₁ r
   does_opt h = record { acting = λ l. opt_first (a.acting l) h }
 
-  pub does_none : (x : Counts) → r ≡ Miss x → Does (opt m) s c st left T T₁ (Got (cursor c.at.0 c.count.0 false) x)
+  pub does_none : (x : Counts) → r ≡ Err (Miss x) → Does (opt m) s c st left T T₁ (Ok (cursor c.at.0 c.count.0 false, x))
   does_none x q = record { acting = λ l. opt_miss (a.acting l) x q }
 
   module _ (fit : Fit 0 s c st) where
-    pub fit_then : Paid m → (d : Cursor) (x : Counts) → r ≡ Got d x → Fit 0 s d x
+    pub fit_then : Paid m → (d : Cursor) (x : Counts) → r ≡ Ok (d, x) → Fit 0 s d x
     fit_then t d x q = fit_got fit m t.0 t.1 (a.acting 0) d x q
 
-    pub fit_next : Passes (sober m) → (x : Counts) → r ≡ Miss x → Fit 0 s c x
+    pub fit_next : Passes (sober m) → (x : Counts) → r ≡ Err (Miss x) → Fit 0 s c x
     fit_next t x q = fit_miss fit m t (a.acting 0) x q
 
-    pub grown_then : Paid m → (d : Cursor) (x : Counts) → r ≡ Got d x → c.count.0 ≤ d.count.0
+    pub grown_then : Paid m → (d : Cursor) (x : Counts) → r ≡ Ok (d, x) → c.count.0 ≤ d.count.0
     grown_then t d x q = (acted m fit.within (a.acting 0) t.0 d x q).grown
 
-    pub moved_then : Passes (moves m) → (d : Cursor) (x : Counts) → r ≡ Got d x → c.at.0 < d.at.0
+    pub moved_then : Passes (moves m) → (d : Cursor) (x : Counts) → r ≡ Ok (d, x) → c.at.0 < d.at.0
     moved_then t d x q = moved m fit.within (a.acting 0) t d x q
 
 -- Alternatives that were read as a group -----------------------------------
@@ -123,11 +124,11 @@ module _ {s : List ℕ} {c : Cursor} {st : Counts} {left : ℕ} {T T₁ : Tables
 -- Items --------------------------------------------------------------------
 
 module _ {s : List ℕ} {c : Cursor} (h : 1 ≤ c.at.0) {st : Counts} (fit : Fit 0 s c st) {left : ℕ} {T T₁ : Tables} {r : Done} (a : Does statement s c st left T T₁ r) where
-  pub item_first : ((x : Counts) → r ≡ Miss x → ⊥) → Does block_item s c st left T T₁ r
+  pub item_first : ((x : Counts) → r ≡ Err (Miss x) → ⊥) → Does block_item s c st left T T₁ r
   unfolding block_item
   item_first o = record { acting = λ l. or_first (rule_is h fit.within (a.acting l)) error_in_block o }
 
-  pub item_error : (x : Counts) → r ≡ Miss x → {t' e' : List ℕ} {r₂ : Done} → TellsLeaf error_in_block s c x T₁.rows t' T₁.errors e' r₂
+  pub item_error : (x : Counts) → r ≡ Err (Miss x) → {t' e' : List ℕ} {r₂ : Done} → TellsLeaf error_in_block s c x T₁.rows t' T₁.errors e' r₂
       → Does block_item s c st left T (tables t' e' T₁.requests) r₂
   unfolding block_item
   item_error x q b = record { acting = λ l. or_miss (rule_is h fit.within (a.acting l)) error_in_block x q ((b.does _ _).acting l) }
@@ -135,7 +136,7 @@ module _ {s : List ℕ} {c : Cursor} (h : 1 ≤ c.at.0) {st : Counts} (fit : Fit
 -- Blocks -------------------------------------------------------------------
 
 module _ {s : List ℕ} {c : Cursor} {st : Counts} {t t₁ e e₁ : List ℕ} {r₁ : Done} (a : TellsLeaf (mark_of 123) s c st t t₁ e e₁ r₁) (fit : Fit 0 s c st)
-    (d : Cursor) (x : Counts) (z : r₁ ≡ Got d x) where
+    (d : Cursor) (x : Counts) (z : r₁ ≡ Ok (d, x)) where
   pub brace_fit : Fit 0 s d x
   brace_fit = fit_then (a.does 0 []) fit (mark_paid 123) d x z
 
@@ -146,36 +147,36 @@ module _ {s : List ℕ} {c : Cursor} {st : Counts} {t t₁ e e₁ : List ℕ} {r
   brace_grown = grown_then (a.does 0 []) fit (mark_paid 123) d x z
 
 module _ {s : List ℕ} {c : Cursor} {st : Counts} {left : ℕ} {t t₁ e e₁ q : List ℕ} {r₁ : Done} (a : TellsLeaf (mark_of 123) s c st t t₁ e e₁ r₁) where
-  pub block_no_brace : ((d : Cursor) (x : Counts) → r₁ ≡ Got d x → ⊥) → Does block s c st left (tables t e q) (tables t₁ e₁ q) r₁
+  pub block_no_brace : IsErr r₁ → Does block s c st left (tables t e q) (tables t₁ e₁ q) r₁
   unfolding block mark_of
   block_no_brace h = block_out block_item blockᵏ 0 (a.does left q) h
 
-  module _ (d : Cursor) (x : Counts) (z : r₁ ≡ Got d x) where
-    pub block_too_deep : left ≡ 0 → Does block s c st left (tables t e q) (tables t₁ e₁ q) Deep
+  module _ (d : Cursor) (x : Counts) (z : r₁ ≡ Ok (d, x)) where
+    pub block_too_deep : left ≡ 0 → Does block s c st left (tables t e q) (tables t₁ e₁ q) (Err Deep)
     unfolding block mark_of
     block_too_deep n = block_none block_item blockᵏ 0 (a.does left q) d x z n
 
     module _ (some : left ≡ 0 → ⊥) {T₂ : Tables} {r₂ : Done} (b : Does (many0 block_item) s d x (left - 1) (tables t₁ e₁ q) T₂ r₂) where
-      pub block_items_out : ((d : Cursor) (x : Counts) → r₂ ≡ Got d x → ⊥) → Does block s c st left (tables t e q) T₂ r₂
+      pub block_items_out : IsErr r₂ → Does block s c st left (tables t e q) T₂ r₂
       unfolding block mark_of
       block_items_out h = block_items block_item blockᵏ 0 (a.does left q) d x z some b h
 
-      module _ (at : 1 ≤ d.at.0) (g : Cursor) (y : Counts) (z₂ : r₂ ≡ Got g y) {t₃ e₃ : List ℕ} {r₃ : Done}
+      module _ (at : 1 ≤ d.at.0) (g : Cursor) (y : Counts) (z₂ : r₂ ≡ Ok (g, y)) {t₃ e₃ : List ℕ} {r₃ : Done}
           (shut : Closes multiline_trivia (opening c.at.0 (d.at.0 - 1)) s g y T₂.rows t₃ T₂.errors e₃ r₃) where
-        pub block_end_out : ((d : Cursor) (x : Counts) → r₃ ≡ Got d x → ⊥) → Does block s c st left (tables t e q) (tables t₃ e₃ T₂.requests) r₃
+        pub block_end_out : IsErr r₃ → Does block s c st left (tables t e q) (tables t₃ e₃ T₂.requests) r₃
         unfolding block mark_of
         block_end_out h = block_end block_item blockᵏ 0 (a.does left q) d x z some b (d.at.0 - 1) (omega arith) g y z₂ shut h
 
-        pub block_whole : (h : Cursor) (w : Counts) → r₃ ≡ Got h w → c.count.0 ≤ h.count.0 → {f : List ℕ}
+        pub block_whole : (h : Cursor) (w : Counts) → r₃ ≡ Ok (h, w) → c.count.0 ≤ h.count.0 → {f : List ℕ}
             → f ≡ pushed row_width t₃ h.count.0 (row_record blockᵏ (h.count.0 + 1 - c.count.0) c.at.0 (d.at.0 - 1) h.at.0 0)
-            → Does block s c st left (tables t e q) (tables f e₃ T₂.requests) (Got (cursor h.at.0 (h.count.0 + 1) false) w)
+            → Does block s c st left (tables t e q) (tables f e₃ T₂.requests) (Ok (cursor h.at.0 (h.count.0 + 1) false, w))
         unfolding block mark_of
         block_whole h w z₃ grown is =
             block_got block_item blockᵏ 0 (a.does left q) d x z some b (d.at.0 - 1) (omega arith) g y z₂ shut h w z₃
             (h.count.0 + 1 - c.count.0) (omega arith) is
 
 module _ {s : List ℕ} {d : Cursor} {x : Counts} (fit : Fit 0 s d x) {left : ℕ} {T T₁ : Tables} {r : Done} (b : Does (many0 block_item) s d x left T T₁ r)
-    (g : Cursor) (y : Counts) (z : r ≡ Got g y) where
+    (g : Cursor) (y : Counts) (z : r ≡ Ok (g, y)) where
   pub items_fit : Fit 0 s g y
   items_fit = fit_then b fit items_paid g y z
 

@@ -1,4 +1,5 @@
 -- A reader that is lent the part of the row table behind the rows so far does there what it would do in the whole table.
+use Rattle.state.proofs.Agree.{got_err}
 use mathlib.Core.Path.{◌≡◌, refl, ap, sym, subst, ◌∙◌}
 use mathlib.Core.Bool.{Bool, true, false}
 use mathlib.Core.List.{List, [], ◌++◌, append-nil}
@@ -19,24 +20,25 @@ use Rattle.line.proofs.Parts.{lined_front, lined_behind, holds_behind}
 use Rattle.cursor.specs.Text.{here, cursor}
 use Rattle.cursor.specs.declared.Cursor.{Cursor}
 use Rattle.state.specs.declared.State.{State as Counts}
-use Rattle.state.specs.declared.Done.{Done}
-use Rattle.state.specs.declared.Done.TheVariants.{Got, Miss, Deep}
+use Rattle.state.specs.Done.{Done}
 use Rattle.state.specs.Acts.{counts, tables, rules, deep_or, done_of, rows_read, Does, Fit}
 use Rattle.state.proofs.Lift.{acting_from}
 use Rattle.state.proofs.Bounds.{sober, acted}
 use Rattle.statement.specs.Lined.{shifted, Appends, AppendsLeaf, LinedLeaf}
+use Rattle.cursor.specs.declared.Stop.TheVariants.{Miss, Deep}
+use Rattle.std.specs.Prelude.{Ok, Err, IsErr}
 
 -- an answer of a reader that counts from 0 is, behind n rows, that of one that counts from n
 shifted_is : (lim n : ℕ) (o : Reply Rows) → shifted n (done_of lim 0 o) ≡ done_of lim n o
 unfolding done_of
 shifted_is lim n (ok v q w) = go (ltb lim w.peak)
   where
-    go : (b : Bool) → shifted n (deep_or b (Got (cursor q.at (0 + length v) false) (counts w))) ≡ deep_or b (Got (cursor q.at (n + length v) false) (counts w))
+    go : (b : Bool) → shifted n (deep_or b (Ok (cursor q.at (0 + length v) false, counts w))) ≡ deep_or b (Ok (cursor q.at (n + length v) false, counts w))
     go true = refl
-    go false = ap (λ (m : ℕ). Got (cursor q.at m false) (counts w)) (let e : n + (0 + length v) ≡ n + length v = omega arith in e)
+    go false = ap (λ (m : ℕ). Ok (cursor q.at m false, counts w)) (let e : n + (0 + length v) ≡ n + length v = omega arith in e)
 shifted_is lim n (err w) = go (ltb lim w.peak)
   where
-    go : (b : Bool) → shifted n (deep_or b (Miss (counts w))) ≡ deep_or b (Miss (counts w))
+    go : (b : Bool) → shifted n (deep_or b (Err (Miss (counts w)))) ≡ deep_or b (Err (Miss (counts w)))
     go true = refl
     go false = refl
 
@@ -100,29 +102,29 @@ fit_count h = omega (arith, h.few, h.within, h.small)
 
 -- Behind rows that have their lines: no answer, or one whose rows get theirs ----
 
-shifted_out : (n : ℕ) (r : Done) → ((d : Cursor) (x : Counts) → r ≡ Got d x → ⊥) → shifted n r ≡ r
-shifted_out n (Got d x) h = absurd (h d x refl)
-shifted_out n (Miss x) h = refl
-shifted_out n Deep h = refl
+shifted_out : (n : ℕ) (r : Done) → IsErr r → shifted n r ≡ r
+shifted_out n (Ok (d, x)) h = absurd (got_err {p = (d, x)} refl h)
+shifted_out n (Err (Miss x)) h = refl
+shifted_out n (Err Deep) h = refl
 
-same_cursor : {d e : Cursor} {x y : Counts} → Got d x ≡ Got e y → d ≡ e
-same_cursor h = cc
+same_cursor : {d e : Cursor} {x y : Counts} → ◌≡◌ {A = Done} (Ok (d, x)) (Ok (e, y)) → d ≡ e
+same_cursor {d} {e} {x} {y} h = let p : ◌≡◌ {A = Cursor × Counts} (d, x) (e, y) = cc in ap (λ (q : Cursor × Counts). q.0) p
 
 module _ {g : Parser} {s : List ℕ} {at n : ℕ} {st : Counts} {t t₁ e e₁ : List ℕ} {r : Done} (b : AppendsLeaf g s at n st t t₁ e e₁ r) where
-  pub lined_out : ((d : Cursor) (x : Counts) → r ≡ Got d x → ⊥) → LinedLeaf g s at n st t t₁ e e₁ r
+  pub lined_out : IsErr r → LinedLeaf g s at n st t t₁ e e₁ r
   lined_out h =
       record {
         from = λ left q u i.
             let y = (b.appends left q).drafted u i in
             record {
               draft = y.draft;
-              lines = λ d x j. absurd (h d x j);
+              lines = λ d x j. absurd (got_err j h);
               does = subst (λ (z : Done). Does g s (cursor at n false) st left (tables u e q) (tables y.draft e₁ q) z) (shifted_out n r h) y.does;
             };
       }
 
-  module _ (d : Cursor) (x : Counts) (h : r ≡ Got d x) where
-    pub lined_got : {t₂ : List ℕ} → t₂ ≡ lined s t₁ (n + d.count.0) → LinedLeaf g s at n st t t₂ e e₁ (Got (cursor d.at.0 (n + d.count.0) false) x)
+  module _ (d : Cursor) (x : Counts) (h : r ≡ Ok (d, x)) where
+    pub lined_got : {t₂ : List ℕ} → t₂ ≡ lined s t₁ (n + d.count.0) → LinedLeaf g s at n st t t₂ e e₁ (Ok (cursor d.at.0 (n + d.count.0) false, x))
     lined_got k =
         record {
           from = λ left q u i.

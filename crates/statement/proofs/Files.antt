@@ -13,14 +13,15 @@ use Rattle.line.proofs.Fills.{lined_none, lined_length, lined_again, numbered_so
 use Rattle.cursor.specs.Text.{cursor}
 use Rattle.cursor.specs.declared.Cursor.{Cursor}
 use Rattle.state.specs.declared.State.{State as Counts}
-use Rattle.state.specs.declared.Done.{Done}
-use Rattle.state.specs.declared.Done.TheVariants.{Got, Miss, Deep}
+use Rattle.state.specs.Done.{Done}
 use Rattle.state.specs.Acts.{Tables, tables, charge, Does, Fit}
 use Rattle.state.proofs.Agree.{got_deep}
 use Rattle.state.proofs.Items.{Walking, walking_none, walking_less, walking_more, walking_end, walking_deep}
 use Rattle.statement.specs.Lined.{shifted, Drafted, Appends, Lined, LinedLeaf}
 use Rattle.statement.proofs.Tests.{top_paid, top_moves, tops_paid}
 use Rattle.statement.proofs.Chains.{does_out, does_then, fit_then}
+use Rattle.cursor.specs.declared.Stop.TheVariants.{Miss, Deep}
+use Rattle.std.specs.Prelude.{Ok, Err, IsErr}
 
 start_charge : (b : Bool) (n : ℕ) → n ≡ 0 → cond b n (n + 1) ≤ 1
 start_charge true n h = omega arith
@@ -40,14 +41,14 @@ start_fit {s} {st} h =
     }
 
 module _ {s : List ℕ} {st : Counts} {left : ℕ} {T T₁ : Tables} {r : Done} (a : Does (many0 (statement or error)) s (cursor 0 0 false) st left T T₁ r) where
-  file_out : ((d : Cursor) (x : Counts) → r ≡ Got d x → ⊥) → Does source_file s (cursor 0 0 false) st left T T₁ r
+  file_out : IsErr r → Does source_file s (cursor 0 0 false) st left T T₁ r
   unfolding source_file
   file_out h = does_out a h
 
-  file_fit : Fit 0 s (cursor 0 0 false) st → (d : Cursor) (x : Counts) → r ≡ Got d x → Fit 0 s d x
+  file_fit : Fit 0 s (cursor 0 0 false) st → (d : Cursor) (x : Counts) → r ≡ Ok (d, x) → Fit 0 s d x
   file_fit h d x q = fit_then a h tops_paid d x q
 
-  file_got : (d : Cursor) (x : Counts) → r ≡ Got d x → {T₂ : Tables} {r₂ : Done} → Does eof s d x left T₁ T₂ r₂ → Does source_file s (cursor 0 0 false) st left T T₂ r₂
+  file_got : (d : Cursor) (x : Counts) → r ≡ Ok (d, x) → {T₂ : Tables} {r₂ : Done} → Does eof s d x left T₁ T₂ r₂ → Does source_file s (cursor 0 0 false) st left T T₂ r₂
   unfolding source_file
   file_got d x q b = does_then a d x q b
 
@@ -75,7 +76,7 @@ module _ {s : List ℕ} {left : ℕ} {st₀ : Counts} {T₀ : Tables} {at count 
   filling_numbered = numbered_so next.draft next.lines
 
   -- a token was read, and the loop goes on behind it
-  module _ (d : Cursor) (x : Counts) (h : r₁ ≡ Got d x) where
+  module _ (d : Cursor) (x : Counts) (h : r₁ ≡ Ok (d, x)) where
     abbrev past : Cursor
     past = cursor d.at.0 (count + d.count.0) false
 
@@ -101,8 +102,8 @@ module _ {s : List ℕ} {left : ℕ} {st₀ : Counts} {T₀ : Tables} {at count 
           }
 
   -- no token fits, and the file ends
-  module _ (x : Counts) (h : r₁ ≡ Miss x) where
-    tokens : Does (many0 (statement or error)) s (cursor 0 0 false) st₀ left T₀ (tables next.draft T₁.errors T₁.requests) (Got (cursor at count false) x)
+  module _ (x : Counts) (h : r₁ ≡ Err (Miss x)) where
+    tokens : Does (many0 (statement or error)) s (cursor 0 0 false) st₀ left T₀ (tables next.draft T₁.errors T₁.requests) (Ok (cursor at count false, x))
     tokens = walking_end u.walking next.does false x (ap (shifted count) h)
 
     pub filling_fit : Fit 0 s (cursor 0 0 false) st₀ → Fit 0 s (cursor at count false) x
@@ -114,10 +115,10 @@ module _ {s : List ℕ} {left : ℕ} {st₀ : Counts} {T₀ : Tables} {at count 
         let y = e.from left T₁.requests next.draft next.lines in
         record { draft = y.draft; lines = y.lines; does = file_got tokens (cursor at count false) x refl y.does }
 
-  pub filling_deep : r₁ ≡ Deep → Lined source_file s (cursor 0 0 false) st₀ left T₀ T₁ Deep
+  pub filling_deep : r₁ ≡ Err Deep → Lined source_file s (cursor 0 0 false) st₀ left T₀ T₁ (Err Deep)
   filling_deep h =
       record {
         draft = next.draft;
         lines = λ d x q. absurd (got_deep d x (sym q));
-        does = file_out (walking_deep u.walking next.does false (ap (shifted count) h)) (λ d x q. got_deep d x (sym q));
+        does = file_out (walking_deep u.walking next.does false (ap (shifted count) h)) refl;
       }

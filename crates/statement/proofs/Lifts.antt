@@ -14,31 +14,31 @@ use Rattle.cursor.specs.Text.{cursor, Skips}
 use Rattle.cursor.specs.Agree.{Reads, Leafs}
 use Rattle.cursor.specs.declared.Cursor.{Cursor}
 use Rattle.cursor.specs.declared.Skip.{Skip}
-use Rattle.cursor.specs.declared.Read.{Read}
-use Rattle.cursor.specs.declared.Read.TheVariants.{Got as ReadGot, Miss as ReadMiss, Deep as ReadDeep}
+use Rattle.cursor.specs.Read.{Read}
 use Rattle.cursor.proofs.Laws.{reads_leaf}
 use Rattle.state.specs.declared.State.{State as Counts}
-use Rattle.state.specs.declared.Done.{Done}
-use Rattle.state.specs.declared.Done.TheVariants.{Got, Miss, Deep}
+use Rattle.state.specs.Done.{Done}
 use Rattle.state.specs.Acts.{Tables, tables, Acting, Does, Tells, TellsLeaf, Fit, Noted}
 use Rattle.state.proofs.Reports.{note_none}
 use Rattle.state.proofs.Lift.{lift_got, lift_miss, lift_deep}
 use Rattle.state.proofs.Bounds.{sober, settled, acted, fit_got, fit_errors}
 use Rattle.statement.specs.Shapes.{met_of, done_from, Lifted, Spans, Headed}
+use Rattle.cursor.specs.declared.Stop.TheVariants.{Miss, Deep}
+use Rattle.std.specs.Prelude.{Ok, Err}
 
 -- What `lifted` does -------------------------------------------------------
 
 module _ {n : ℕ} {f : Read} {st : Counts} {e : List ℕ} where
-  pub lifted_got : (d : Cursor) → f ≡ ReadGot d → {x : Counts} {e' : List ℕ} → Noted n d.met st x e e'
-      → Lifted n f st e e' (Got (cursor d.at.0 d.count.0 false) x)
+  pub lifted_got : (d : Cursor) → f ≡ Ok d → {x : Counts} {e' : List ℕ} → Noted n d.met st x e e'
+      → Lifted n f st e e' (Ok (cursor d.at.0 d.count.0 false, x))
   lifted_got d z {x} {e'} m =
       record { x = x; noted = subst (λ (y : Read). Noted n (met_of y) st x e e') (sym z) m; answer = ap (λ (y : Read). done_from y x) (sym z) }
 
-  pub lifted_miss : (b : Bool) → f ≡ ReadMiss b → {x : Counts} {e' : List ℕ} → Noted n b st x e e' → Lifted n f st e e' (Miss x)
+  pub lifted_miss : (b : Bool) → f ≡ Err (Miss b) → {x : Counts} {e' : List ℕ} → Noted n b st x e e' → Lifted n f st e e' (Err (Miss x))
   lifted_miss b z {x} {e'} m =
       record { x = x; noted = subst (λ (y : Read). Noted n (met_of y) st x e e') (sym z) m; answer = ap (λ (y : Read). done_from y x) (sym z) }
 
-  pub lifted_deep : f ≡ ReadDeep → Lifted n f st e e Deep
+  pub lifted_deep : f ≡ Err Deep → Lifted n f st e e (Err Deep)
   lifted_deep z =
       record {
         x = st;
@@ -63,9 +63,9 @@ module _ {g : Parser} (u : Passes (quiet g)) {s : List ℕ} {c : Cursor} (h : c.
       met y z = subst (λ (y : Read). Noted (length s) (met_of y) st n.x e e₁) z n.noted
 
       go : (q : List ℕ) (l : ℕ) (y : Read) → f ≡ y → Acting g s l (l + left) c.at.0 c.count.0 st (tables t e q) (tables t₁ e₁ q) r
-      go q l (ReadGot d) z = to q l (ReadGot d) z (lift_got u h (a.reading l) d z (met (ReadGot d) z))
-      go q l (ReadMiss b) z = to q l (ReadMiss b) z (lift_miss u h (a.reading l) b z (met (ReadMiss b) z))
-      go q l ReadDeep z = to q l ReadDeep z (lift_deep u h (a.reading l) z)
+      go q l (Ok d) z = to q l (Ok d) z (lift_got u h (a.reading l) d z (met (Ok d) z))
+      go q l (Err (Miss b)) z = to q l (Err (Miss b)) z (lift_miss u h (a.reading l) b z (met (Err (Miss b)) z))
+      go q l (Err Deep) z = to q l (Err Deep) z (lift_deep u h (a.reading l) z)
 
   pub lift_leaf : Leafs g s (cursor c.at.0 c.count.0 false) t t₁ f → TellsLeaf g s c st t t₁ e e₁ r
   lift_leaf a = record { does = λ left q. (lift (reads_leaf left a)).does q }

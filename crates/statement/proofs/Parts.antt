@@ -15,15 +15,14 @@ use Rattle.table.specs.declared.Pos.{Pos}
 use Rattle.cursor.specs.Text.{cursor, Skips}
 use Rattle.cursor.specs.declared.Cursor.{Cursor}
 use Rattle.cursor.specs.declared.Skip.{Skip}
-use Rattle.cursor.specs.declared.Read.{Read}
+use Rattle.cursor.specs.Read.{Read}
 use Rattle.cursor.proofs.Lows.{low_node}
 use Rattle.trivia.specs.Class.{among}
 use Rattle.lexis.specs.Behind.{Behind, Rowed}
 use Rattle.lexis.proofs.Ends.{run_at}
 use Rattle.lexis.proofs.Marks.{behind_found}
 use Rattle.state.specs.declared.State.{State as Counts}
-use Rattle.state.specs.declared.Done.{Done}
-use Rattle.state.specs.declared.Done.TheVariants.{Got, Miss}
+use Rattle.state.specs.Done.{Done}
 use Rattle.state.specs.Acts.{Tables, tables, Acting, Does, TellsLeaf, Closes, opening, Fit, Reported}
 use Rattle.state.proofs.Laws.{seq_empty, complain_out, complain_got}
 use Rattle.state.proofs.Rows.{import_out, import_no_name, import_no_block, import_got, line_quiet, starts_node}
@@ -38,6 +37,8 @@ use Rattle.statement.proofs.Lifts.{lift_leaf}
 use Rattle.statement.proofs.Same.{Same, does_same, same_then, seq_same, over_same, seq_assoc}
 use Rattle.statement.proofs.Tests.{text_of, text_quiet, text_paid, mark_quiet, eof_quiet}
 use Rattle.statement.proofs.Tails.{begins_node, closing_out, closing_got}
+use Rattle.cursor.specs.declared.Stop.TheVariants.{Miss}
+use Rattle.std.specs.Prelude.{Ok, Err, IsErr}
 
 -- Leaves -------------------------------------------------------------------
 
@@ -70,15 +71,15 @@ module _ {s : List ℕ} {c : Cursor} {st : Counts} (fit : Fit 0 s c st) {k : Ski
 
 module _ (class : ℕ) {s : List ℕ} {c : Cursor} {st : Counts} (fit : Fit 0 s c st) {t t₁ e e₁ : List ℕ} {r : Done}
     (a : TellsLeaf (text_of class) s c st t t₁ e e₁ r) where
-  pub error_out : ((d : Cursor) (x : Counts) → r ≡ Got d x → ⊥) → TellsLeaf (error_of class) s c st t t₁ e e₁ r
+  pub error_out : IsErr r → TellsLeaf (error_of class) s c st t t₁ e e₁ r
   unfolding error_of
   error_out h = record { does = λ left q. record { acting = λ l. complain_out ((a.does left q).acting l) h } }
 
-  pub error_fit : (d : Cursor) (x : Counts) → r ≡ Got d x → Fit 0 s d x
+  pub error_fit : (d : Cursor) (x : Counts) → r ≡ Ok (d, x) → Fit 0 s d x
   error_fit d x q = fit_got fit (text_of class) (text_paid class).0 (text_paid class).1 ((a.does 0 []).acting 0) d x q
 
-  pub error_got : {k : Skip} → Skips multiline_trivia s c.at.0 false k → (d : Cursor) (x : Counts) → r ≡ Got d x
-      → {y : Counts} {e₂ : List ℕ} → Reported (record { code = 2; low = k.at.0; high = d.at.0 }) x y e₁ e₂ → TellsLeaf (error_of class) s c st t t₁ e e₂ (Got d y)
+  pub error_got : {k : Skip} → Skips multiline_trivia s c.at.0 false k → (d : Cursor) (x : Counts) → r ≡ Ok (d, x)
+      → {y : Counts} {e₂ : List ℕ} → Reported (record { code = 2; low = k.at.0; high = d.at.0 }) x y e₁ e₂ → TellsLeaf (error_of class) s c st t t₁ e e₂ (Ok (d, y))
   unfolding error_of
   error_got {k} skip d x q report =
       record {
@@ -100,24 +101,24 @@ error_in_is a = a
 -- The end of a block -------------------------------------------------------
 
 module _ {s : List ℕ} {c : Cursor} {st : Counts} {t t₁ e e₁ : List ℕ} {r : Done} {tlow low : ℕ} (a : TellsLeaf (mark_of 125) s c st t t₁ e e₁ r) where
-  pub shut_first : ((x : Counts) → r ≡ Miss x → ⊥) → Closes multiline_trivia (opening tlow low) s c st t t₁ e e₁ r
+  pub shut_first : ((x : Counts) → r ≡ Err (Miss x) → ⊥) → Closes multiline_trivia (opening tlow low) s c st t t₁ e e₁ r
   unfolding mark_of
   shut_first h = close_first multiline_trivia (opening tlow low) a h
 
-  pub shut_missing : (x : Counts) → r ≡ Miss x → {y : Counts} {t₂ e₂ : List ℕ}
+  pub shut_missing : (x : Counts) → r ≡ Err (Miss x) → {y : Counts} {t₂ e₂ : List ℕ}
       → t₂ ≡ pushed row_width t₁ c.count.0 (row_record charᵏ 1 tlow low (low + 1) 125) → Reported (error_at 5 c.at.0) x y e₁ e₂
-      → Closes multiline_trivia (opening tlow low) s c st t t₂ e e₂ (Got (cursor c.at.0 (c.count.0 + 1) false) y)
+      → Closes multiline_trivia (opening tlow low) s c st t t₂ e e₂ (Ok (cursor c.at.0 (c.count.0 + 1) false, y))
   unfolding mark_of
   shut_missing x q row rep = close_missing multiline_trivia (opening tlow low) a x q rep row
 
 -- Braces and labels --------------------------------------------------------
 
 module _ {s : List ℕ} {c : Cursor} {k : Skip} (skip : Skips multiline_trivia s c.at.0 false k) {st : Counts} {left : ℕ} {T T₁ : Tables} {r : Done} where
-  pub braces_out : Does block s c st left T T₁ r → ((d : Cursor) (x : Counts) → r ≡ Got d x → ⊥) → Does braces s c st left T T₁ r
+  pub braces_out : Does block s c st left T T₁ r → IsErr r → Does braces s c st left T T₁ r
   unfolding braces
   braces_out a h = record { acting = λ l. closing_out true bracesᵏ (seq_empty (a.acting l)) h }
 
-  pub braces_got : Does block s c st left T T₁ r → (d : Cursor) (x : Counts) → r ≡ Got d x → c.count.0 ≤ d.count.0
+  pub braces_got : Does block s c st left T T₁ r → (d : Cursor) (x : Counts) → r ≡ Ok (d, x) → c.count.0 ≤ d.count.0
       → {t' : List ℕ} {r₁ : Done} → Closed true bracesᵏ c k d x T₁.rows t' r₁ → Does braces s c st left T (tables t' T₁.errors T₁.requests) r₁
   unfolding braces
   braces_got a d x q grown w = record { acting = λ l. closing_got true (seq_empty (a.acting l)) (starts_block skip) d x q grown w }
@@ -150,23 +151,23 @@ macro_ends {s} {c} skip {st} {left} {T} a w =
 -- Imports ------------------------------------------------------------------
 
 module _ {s : List ℕ} {c : Cursor} {st : Counts} {left : ℕ} {T T₁ : Tables} {r₁ : Done} (a : Does import_head s c st left T T₁ r₁) where
-  pub import_head_out : ((d : Cursor) (x : Counts) → r₁ ≡ Got d x → ⊥) → Does import' s c st left T T₁ r₁
+  pub import_head_out : IsErr r₁ → Does import' s c st left T T₁ r₁
   unfolding import_head import_names import'
   import_head_out h = record { acting = λ l. import_out quoted_string (opt block) (a.acting l) h }
 
-  module _ (d : Cursor) (x : Counts) (q : r₁ ≡ Got d x) {T₂ : Tables} {r₂ : Done} (b : Does quoted_string s d x left T₁ T₂ r₂) where
-    pub import_name_out : ((d : Cursor) (x : Counts) → r₂ ≡ Got d x → ⊥) → Does import' s c st left T T₂ r₂
+  module _ (d : Cursor) (x : Counts) (q : r₁ ≡ Ok (d, x)) {T₂ : Tables} {r₂ : Done} (b : Does quoted_string s d x left T₁ T₂ r₂) where
+    pub import_name_out : IsErr r₂ → Does import' s c st left T T₂ r₂
     unfolding import_head import_names import'
     import_name_out h = record { acting = λ l. import_no_name quoted_string (opt block) (a.acting l) d x q (b.acting l) h }
 
-    module _ (d₂ : Cursor) (x₂ : Counts) (q₂ : r₂ ≡ Got d₂ x₂) {T₃ : Tables} {r₃ : Done} (e : Does (opt block) s d₂ x₂ left T₂ T₃ r₃) where
-      pub import_block_out : ((d : Cursor) (x : Counts) → r₃ ≡ Got d x → ⊥) → Does import' s c st left T T₃ r₃
+    module _ (d₂ : Cursor) (x₂ : Counts) (q₂ : r₂ ≡ Ok (d₂, x₂)) {T₃ : Tables} {r₃ : Done} (e : Does (opt block) s d₂ x₂ left T₂ T₃ r₃) where
+      pub import_block_out : IsErr r₃ → Does import' s c st left T T₃ r₃
       unfolding import_head import_names import'
       import_block_out h =
           record { acting = λ l. import_no_block quoted_string (opt block) (a.acting l) d x q (b.acting l) d₂ x₂ q₂ (e.acting l) h }
 
       pub import_all : {k j : Skip} → Skips multiline_trivia s c.at.0 false k → Skips trivia s d.at.0 false j → d.at.0 ≤ length s
-          → (d₃ : Cursor) (x₃ : Counts) → r₃ ≡ Got d₃ x₃ → c.count.0 ≤ d₃.count.0 → (high : ℕ) → high ≡ d₂.at.0 - 1
+          → (d₃ : Cursor) (x₃ : Counts) → r₃ ≡ Ok (d₃, x₃) → c.count.0 ≤ d₃.count.0 → (high : ℕ) → high ≡ d₂.at.0 - 1
           → {t' q' : List ℕ} {r : Done} → Imported j.at.0 high c k d₃ x₃ T₃.rows t' T₃.requests q' r
           → Does import' s c st left T (tables t' T₃.errors q') r
       unfolding import_head import_names import'

@@ -10,8 +10,7 @@ use Rattle.cursor.specs.Text.{cursor, Skips}
 use Rattle.cursor.specs.declared.Cursor.{Cursor}
 use Rattle.cursor.specs.declared.Skip.{Skip}
 use Rattle.state.specs.declared.State.{State as Counts}
-use Rattle.state.specs.declared.Done.{Done}
-use Rattle.state.specs.declared.Done.TheVariants.{Got, Miss}
+use Rattle.state.specs.Done.{Done}
 use Rattle.state.specs.Acts.{Tells, TellsLeaf, Reported}
 use Rattle.state.proofs.Laws.{seq_out, seq_got, seq_assoc, expect_first, expect_miss}
 use Rattle.state.proofs.Rows.{Starts, line_quiet, starts_node, starts_or}
@@ -19,22 +18,24 @@ use Rattle.statement.specs.Shapes.{Closed}
 use Rattle.head.specs.Heads.{define_head}
 use Rattle.statement.proofs.Tails.{closing_out, closing_got}
 use Rattle.statement.proofs.Chains.{does_first, does_next}
+use Rattle.cursor.specs.declared.Stop.TheVariants.{Miss}
+use Rattle.std.specs.Prelude.{Ok, Err, IsErr}
 
 -- Groups -------------------------------------------------------------------
 
 module _ {m : Parser} {s : List ℕ} {c : Cursor} {st : Counts} {left : ℕ} {t t₁ e e₁ : List ℕ} {r : Done} (a : Tells m s c st left t t₁ e e₁ r) where
-  pub tells_first : {n : Parser} → ((x : Counts) → r ≡ Miss x → ⊥) → Tells (m or n) s c st left t t₁ e e₁ r
+  pub tells_first : {n : Parser} → ((x : Counts) → r ≡ Err (Miss x) → ⊥) → Tells (m or n) s c st left t t₁ e e₁ r
   tells_first h = record { does = λ q. does_first (a.does q) h }
 
-  pub tells_next : {n : Parser} (x : Counts) → r ≡ Miss x → {t₂ e₂ : List ℕ} {r₂ : Done} → Tells n s c x left t₁ t₂ e₁ e₂ r₂ → Tells (m or n) s c st left t t₂ e e₂ r₂
+  pub tells_next : {n : Parser} (x : Counts) → r ≡ Err (Miss x) → {t₂ e₂ : List ℕ} {r₂ : Done} → Tells n s c x left t₁ t₂ e₁ e₂ r₂ → Tells (m or n) s c st left t t₂ e e₂ r₂
   tells_next x z b = record { does = λ q. does_next (a.does q) x z (b.does q) }
 
   -- what may be missing, with a report of its code where it would begin
-  pub tells_expect : (code : ℕ) → ((x : Counts) → r ≡ Miss x → ⊥) → Tells (expect code m) s c st left t t₁ e e₁ r
+  pub tells_expect : (code : ℕ) → ((x : Counts) → r ≡ Err (Miss x) → ⊥) → Tells (expect code m) s c st left t t₁ e e₁ r
   tells_expect code h = record { does = λ q. record { acting = λ l. expect_first ((a.does q).acting l) code h } }
 
-  pub tells_missing : (code : ℕ) (x : Counts) → r ≡ Miss x → {y : Counts} {e₂ : List ℕ} → Reported (error_at code c.at.0) x y e₁ e₂
-      → Tells (expect code m) s c st left t t₁ e e₂ (Got (cursor c.at.0 c.count.0 false) y)
+  pub tells_missing : (code : ℕ) (x : Counts) → r ≡ Err (Miss x) → {y : Counts} {e₂ : List ℕ} → Reported (error_at code c.at.0) x y e₁ e₂
+      → Tells (expect code m) s c st left t t₁ e e₂ (Ok (cursor c.at.0 c.count.0 false, y))
   tells_missing code x z report = record { does = λ q. record { acting = λ l. expect_miss ((a.does q).acting l) code x z report } }
 
 pub leaf_tells : {m : Parser} {s : List ℕ} {c : Cursor} {st : Counts} {left : ℕ} {t t₁ e e₁ : List ℕ} {r : Done} → TellsLeaf m s c st t t₁ e e₁ r → Tells m s c st left t t₁ e e₁ r
@@ -43,13 +44,13 @@ leaf_tells {left = left} a = record { does = λ q. a.does left q }
 -- A definition and its map -------------------------------------------------
 
 module _ {s : List ℕ} {c : Cursor} {st : Counts} {left : ℕ} {t t₁ e e₁ : List ℕ} {r : Done} (a : TellsLeaf define_head s c st t t₁ e e₁ r) where
-  pub definition_out : ((d : Cursor) (x : Counts) → r ≡ Got d x → ⊥) → Tells config_definition s c st left t t₁ e e₁ r
+  pub definition_out : IsErr r → Tells config_definition s c st left t t₁ e e₁ r
   unfolding define_head config_definition
   definition_out h =
       record { does = λ q. record { acting = λ l. closing_out false definitionᵏ (seq_assoc (seq_out ((a.does left q).acting l) (expect 4 config_map) h)) h } }
 
-  module _ (d : Cursor) (x : Counts) (z : r ≡ Got d x) {t₂ e₂ : List ℕ} {r₂ : Done} (b : Tells (expect 4 config_map) s d x left t₁ t₂ e₁ e₂ r₂) where
-    pub definition_map_out : ((d : Cursor) (x : Counts) → r₂ ≡ Got d x → ⊥) → Tells config_definition s c st left t t₂ e e₂ r₂
+  module _ (d : Cursor) (x : Counts) (z : r ≡ Ok (d, x)) {t₂ e₂ : List ℕ} {r₂ : Done} (b : Tells (expect 4 config_map) s d x left t₁ t₂ e₁ e₂ r₂) where
+    pub definition_map_out : IsErr r₂ → Tells config_definition s c st left t t₂ e e₂ r₂
     unfolding define_head config_definition
     definition_map_out h =
         record {
@@ -58,7 +59,7 @@ module _ {s : List ℕ} {c : Cursor} {st : Counts} {left : ℕ} {t t₁ e e₁ :
           };
         }
 
-    pub definition_got : {k : Skip} → Skips multiline_trivia s c.at.0 false k → (g : Cursor) (y : Counts) → r₂ ≡ Got g y → c.count.0 ≤ g.count.0
+    pub definition_got : {k : Skip} → Skips multiline_trivia s c.at.0 false k → (g : Cursor) (y : Counts) → r₂ ≡ Ok (g, y) → c.count.0 ≤ g.count.0
         → {t' : List ℕ} {r₃ : Done} → Closed false definitionᵏ c k g y t₂ t' r₃ → Tells config_definition s c st left t t' e e₂ r₃
     unfolding define_head config_definition
     definition_got skip g y z₂ grown w =
@@ -79,12 +80,12 @@ size_starts skip =
     λ lim st. starts_node data_sizeᵏ (always 3) (word ".dword") line_quiet skip
 
 module _ {s : List ℕ} {c : Cursor} {st : Counts} {left : ℕ} {t t₁ e e₁ : List ℕ} {r : Done} (a : TellsLeaf data_size s c st t t₁ e e₁ r) where
-  pub data_out : ((d : Cursor) (x : Counts) → r ≡ Got d x → ⊥) → Tells data' s c st left t t₁ e e₁ r
+  pub data_out : IsErr r → Tells data' s c st left t t₁ e e₁ r
   unfolding data'
   data_out h = record { does = λ q. record { acting = λ l. closing_out false dataᵏ (seq_out ((a.does left q).acting l) (expect 3 expression_arg_list) h) h } }
 
-  module _ (d : Cursor) (x : Counts) (z : r ≡ Got d x) {t₂ e₂ : List ℕ} {r₂ : Done} (b : Tells (expect 3 expression_arg_list) s d x left t₁ t₂ e₁ e₂ r₂) where
-    pub data_values_out : ((d : Cursor) (x : Counts) → r₂ ≡ Got d x → ⊥) → Tells data' s c st left t t₂ e e₂ r₂
+  module _ (d : Cursor) (x : Counts) (z : r ≡ Ok (d, x)) {t₂ e₂ : List ℕ} {r₂ : Done} (b : Tells (expect 3 expression_arg_list) s d x left t₁ t₂ e₁ e₂ r₂) where
+    pub data_values_out : IsErr r₂ → Tells data' s c st left t t₂ e e₂ r₂
     unfolding data'
     data_values_out h =
         record {
@@ -93,7 +94,7 @@ module _ {s : List ℕ} {c : Cursor} {st : Counts} {left : ℕ} {t t₁ e e₁ :
           };
         }
 
-    pub data_got : {k : Skip} → Skips multiline_trivia s c.at.0 false k → (g : Cursor) (y : Counts) → r₂ ≡ Got g y → c.count.0 ≤ g.count.0
+    pub data_got : {k : Skip} → Skips multiline_trivia s c.at.0 false k → (g : Cursor) (y : Counts) → r₂ ≡ Ok (g, y) → c.count.0 ≤ g.count.0
         → {t' : List ℕ} {r₃ : Done} → Closed false dataᵏ c k g y t₂ t' r₃ → Tells data' s c st left t t' e e₂ r₃
     unfolding data'
     data_got skip g y z₂ grown w =

@@ -6,7 +6,7 @@ use Rattle.reading.specs.Grammar.{Rows, State, Input, Reply, ok, err, Parser, â—
 use Rattle.cursor.specs.Text.{here}
 use Rattle.cursor.specs.declared.Cursor.{Cursor}
 use Rattle.state.specs.declared.State.{State as Counts}
-use Rattle.state.specs.declared.Done.{Done}
+use Rattle.state.specs.Done.{Done}
 use Rattle.state.specs.Acts.{Tables, rules, Does}
 use Rattle.state.proofs.Laws.{acting_is}
 

@@ -17,8 +17,7 @@ use Rattle.cursor.specs.Text.{here, cursor, Skips}
 use Rattle.cursor.specs.declared.Cursor.{Cursor}
 use Rattle.cursor.specs.declared.Skip.{Skip}
 use Rattle.state.specs.declared.State.{State as Counts}
-use Rattle.state.specs.declared.Done.{Done}
-use Rattle.state.specs.declared.Done.TheVariants.{Got}
+use Rattle.state.specs.Done.{Done}
 use Rattle.state.specs.Acts.{counts, Tables, tables, rules, Acting, Does, Fit, Requested}
 use Rattle.state.proofs.Laws.{seq_out, seq_got, seq_assoc}
 use Rattle.state.proofs.Rows.{Starts, line_quiet, starts_node, over_out, over_got, scoped_out, scoped_got}
@@ -27,6 +26,7 @@ use Rattle.statement.specs.declared.Body.{Body}
 use Rattle.statement.specs.Shapes.{closing, closed_state, closed_rows, Closed, Imported, body_of, Begins, Headed, Ends}
 use Rattle.head.specs.Heads.{word_of, directive_of, directive_expression}
 use Rattle.statement.proofs.Tests.{directive_sober}
+use Rattle.std.specs.Prelude.{Ok, IsErr}
 
 -- Where the first tree begins ----------------------------------------------
 
@@ -49,24 +49,24 @@ begins_node k d m skip = begins_from λ l lim st. starts_node k d m line_quiet s
 
 module _ {kind : ℕ} {c : Cursor} {k : Skip} {d : Cursor} {st : Counts} {t t' : List ℕ} {scope : Bool} where
   pub closed_numbered : scope ≡ true → t' ≡ closed_rows kind (st.scope + 1) c k d t
-      → Closed scope kind c k d st t t' (Got (cursor d.at.0 (d.count.0 + 1) false) (closed_state true st))
+      → Closed scope kind c k d st t t' (Ok (cursor d.at.0 (d.count.0 + 1) false, closed_state true st))
   closed_numbered e h =
-      subst (λ (b : Bool). Closed b kind c k d st t t' (Got (cursor d.at.0 (d.count.0 + 1) false) (closed_state true st))) (sym e)
+      subst (λ (b : Bool). Closed b kind c k d st t t' (Ok (cursor d.at.0 (d.count.0 + 1) false, closed_state true st))) (sym e)
       (record { table = h; answer = refl })
 
-  pub closed_plain : scope ≡ false → t' ≡ closed_rows kind 0 c k d t → Closed scope kind c k d st t t' (Got (cursor d.at.0 (d.count.0 + 1) false) st)
+  pub closed_plain : scope ≡ false → t' ≡ closed_rows kind 0 c k d t → Closed scope kind c k d st t t' (Ok (cursor d.at.0 (d.count.0 + 1) false, st))
   closed_plain e h =
-      subst (λ (b : Bool). Closed b kind c k d st t t' (Got (cursor d.at.0 (d.count.0 + 1) false) st)) (sym e)
+      subst (λ (b : Bool). Closed b kind c k d st t t' (Ok (cursor d.at.0 (d.count.0 + 1) false, st))) (sym e)
       (record { table = h; answer = refl })
 
 pub closing_out : (scope : Bool) (kind : ℕ) {m n : Parser} {s : List ℕ} {l lim i base : ℕ} {st : Counts} {T T₁ : Tables} {r : Done}
-    → Acting (m ▸ n) s l lim i base st T T₁ r → ((d : Cursor) (x : Counts) → r ≡ Got d x → ⊥) → Acting (closing scope kind m n) s l lim i base st T T₁ r
+    → Acting (m ▸ n) s l lim i base st T T₁ r → IsErr r → Acting (closing scope kind m n) s l lim i base st T T₁ r
 closing_out true kind a h = scoped_out a kind h
 closing_out false kind a h = over_out a kind 0 h
 
 pub closing_got : (scope : Bool) {kind : ℕ} {m n : Parser} {s : List ℕ} {l lim : ℕ} {c : Cursor} {k : Skip} {st : Counts} {T T₁ : Tables} {r₁ : Done}
     → Acting (m ▸ n) s l lim c.at.0 c.count.0 st T T₁ r₁ → Starts m s l lim c.at.0 st k.at.0
-    → (d : Cursor) (x : Counts) → r₁ ≡ Got d x → c.count.0 ≤ d.count.0 → {t' : List ℕ} {r : Done} → Closed scope kind c k d x T₁.rows t' r
+    → (d : Cursor) (x : Counts) → r₁ ≡ Ok (d, x) → c.count.0 ≤ d.count.0 → {t' : List ℕ} {r : Done} → Closed scope kind c k d x T₁.rows t' r
     → Acting (closing scope kind m n) s l lim c.at.0 c.count.0 st T (tables t' T₁.errors T₁.requests) r
 closing_got true {kind} {m} {n} {s} {l} {lim} {c} {k} {st} {T} {T₁} a h d x q grown {t'} e =
     subst (Acting (closing true kind m n) s l lim c.at.0 c.count.0 st T (tables t' T₁.errors T₁.requests)) (sym e.answer)
@@ -78,12 +78,12 @@ closing_got false {kind} {m} {n} {s} {l} {lim} {c} {k} {st} {T} {T₁} a h d x q
 -- Behind a head ------------------------------------------------------------
 
 module _ {b : Body} {scope : Bool} {kind : ℕ} {s : List ℕ} {c : Cursor} {k : Skip} {h : Done} {left : ℕ} {T : Tables} where
-  pub ends_out : ((d : Cursor) (x : Counts) → h ≡ Got d x → ⊥) → Ends b scope kind s c k h left T T h
+  pub ends_out : IsErr h → Ends b scope kind s c k h left T T h
   ends_out o =
       record { does = λ m n st T₀ first a. record { acting = λ l. closing_out scope kind (seq_assoc (seq_out (a.acting l) (body_of b) o)) o } }
 
-  module _ (d : Cursor) (x : Counts) (q : h ≡ Got d x) {T₁ : Tables} {r₁ : Done} (g : Does (body_of b) s d x left T T₁ r₁) where
-    pub ends_body : ((d : Cursor) (x : Counts) → r₁ ≡ Got d x → ⊥) → Ends b scope kind s c k h left T T₁ r₁
+  module _ (d : Cursor) (x : Counts) (q : h ≡ Ok (d, x)) {T₁ : Tables} {r₁ : Done} (g : Does (body_of b) s d x left T T₁ r₁) where
+    pub ends_body : IsErr r₁ → Ends b scope kind s c k h left T T₁ r₁
     ends_body o =
         record {
           does = λ m n st T₀ first a. record {
@@ -91,7 +91,7 @@ module _ {b : Body} {scope : Bool} {kind : ℕ} {s : List ℕ} {c : Cursor} {k :
           };
         }
 
-    pub ends_got : (e : Cursor) (y : Counts) → r₁ ≡ Got e y → c.count.0 ≤ e.count.0 → {t' : List ℕ} {r : Done} → Closed scope kind c k e y T₁.rows t' r
+    pub ends_got : (e : Cursor) (y : Counts) → r₁ ≡ Ok (e, y) → c.count.0 ≤ e.count.0 → {t' : List ℕ} {r : Done} → Closed scope kind c k e y T₁.rows t' r
         → Ends b scope kind s c k h left T (tables t' T₁.errors T₁.requests) r
     ends_got e y z grown w =
         record {
@@ -119,7 +119,7 @@ directive_headed w {s} {c} {st} some h {r = r} a =
       grown = λ d x q. (acted (directive_expression w) h.within (a.acting 0) (directive_sober w) d x q).grown;
     }
   where
-    fits : (d : Cursor) (x : Counts) → r ≡ Got d x → Fit 0 s d x
+    fits : (d : Cursor) (x : Counts) → r ≡ Ok (d, x) → Fit 0 s d x
     fits d x q =
         let b = acted (directive_expression w) h.within (a.acting 0) (directive_sober w) d x q in
         let row = directive_cost w in
@@ -135,25 +135,26 @@ directive_headed w {s} {c} {st} some h {r = r} a =
 
 -- An import's row and request ----------------------------------------------
 
-got_is : (e f : Cursor) (x y : Counts) → Got e x ≡ Got f y → (e ≡ f) × (x ≡ y)
-got_is e f x y h = (cc, cc)
+got_is : (e f : Cursor) (x y : Counts) → ◌≡◌ {A = Done} (Ok (e, x)) (Ok (f, y)) → (e ≡ f) × (x ≡ y)
+got_is e f x y h =
+    let p : ◌≡◌ {A = Cursor × Counts} (e, x) (f, y) = cc in (ap (λ (q : Cursor × Counts). q.0) p, ap (λ (q : Cursor × Counts). q.1) p)
 
 abbrev asked : Counts → Counts
 asked st = record { scope = st.scope; swallow = st.swallow; errors = st.errors; requests = st.requests + 1 }
 
 pub imported_request : {low high : ℕ} {c : Cursor} {k : Skip} {d : Cursor} {st : Counts} {t t' q q' : List ℕ} {r : Done}
-    → Closed true importᵏ c k d st t t' r → (e : Cursor) (x : Counts) → r ≡ Got e x → {y : Counts} → Requested (record { low = low; high = high }) x y q q'
-    → Imported low high c k d st t t' q q' (Got e y)
+    → Closed true importᵏ c k d st t t' r → (e : Cursor) (x : Counts) → r ≡ Ok (e, x) → {y : Counts} → Requested (record { low = low; high = high }) x y q q'
+    → Imported low high c k d st t t' q q' (Ok (e, y))
 imported_request {low} {high} {d = d} {st = st} {q = q} w e x z {y} n =
     let is = got_is e (cursor d.at.0 (d.count.0 + 1) false) x (closed_state true st) (sym z ∙ w.answer) in
     record {
       rows = w.table;
       requests = n.table ∙ ap (λ (i : Counts). pushed request_width q i.requests (request_record low high)) is.1;
-      answer = ap₂ {C = Done} (λ (e : Cursor) (x : Counts). Got e x) is.0 (n.state ∙ ap asked is.1);
+      answer = ap₂ {C = Done} (λ (e : Cursor) (x : Counts). Ok (e, x)) is.0 (n.state ∙ ap asked is.1);
     }
 
 pub closed_requests : {c : Cursor} {k : Skip} {d : Cursor} {st : Counts} {t t' : List ℕ} {r : Done} → Closed true importᵏ c k d st t t' r
-    → (e : Cursor) (x : Counts) → r ≡ Got e x → {low high : ℕ} → (low < 2 ^ 32) × (high < 2 ^ 32) × (st.requests < 2 ^ 32)
+    → (e : Cursor) (x : Counts) → r ≡ Ok (e, x) → {low high : ℕ} → (low < 2 ^ 32) × (high < 2 ^ 32) × (st.requests < 2 ^ 32)
     → (low < 2 ^ 32) × (high < 2 ^ 32) × (x.requests < 2 ^ 32)
 closed_requests {d = d} {st = st} w e x z b =
     let is = got_is e (cursor d.at.0 (d.count.0 + 1) false) x (closed_state true st) (sym z ∙ w.answer) in

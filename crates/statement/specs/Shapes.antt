@@ -1,5 +1,5 @@
 -- What the shared parts of statements do: a quiet reader's answer with the state, the row around a statement, what stands behind its head.
-use Rattle.std.specs.Prelude.{Bool, true, false, List, ◌≡◌, ℕ, ◌+◌, ◌-◌, ◌^◌, ◌≤◌, ◌<◌}
+use Rattle.std.specs.Prelude.{Bool, true, false, List, ◌≡◌, ℕ, ◌+◌, ◌-◌, ◌^◌, ◌≤◌, ◌<◌, Ok, Err}
 use Rattle.reading.specs.Byte.{is}
 use Rattle.reading.specs.Kind.{charᵏ, errorᵏ, importᵏ}
 use Rattle.reading.specs.Grammar.{Rows, State, Input, ok, run1, one, Parser, ◌▸◌, leaf, over, scoped, complain, first_low, parse}
@@ -10,14 +10,13 @@ use Rattle.trivia.specs.Class.{among}
 use Rattle.cursor.specs.Text.{here, cursor}
 use Rattle.cursor.specs.declared.Cursor.{Cursor}
 use Rattle.cursor.specs.declared.Skip.{Skip}
-use Rattle.cursor.specs.declared.Read.{Read}
-use Rattle.cursor.specs.declared.Read.TheVariants.{Got as ReadGot, Miss as ReadMiss, Deep as ReadDeep}
+use Rattle.cursor.specs.Read.{Read}
 use Rattle.state.specs.declared.State.{State as Counts}
-use Rattle.state.specs.declared.Done.{Done}
-use Rattle.state.specs.declared.Done.TheVariants.{Got, Miss, Deep}
+use Rattle.state.specs.Done.{Done}
 use Rattle.state.specs.Acts.{Tables, rules, Does, Noted, Fit}
 use Rattle.statement.specs.declared.Body.{Body}
 use Rattle.statement.specs.declared.Body.TheVariants.{Maybe, Block, Branches}
+use Rattle.cursor.specs.declared.Stop.TheVariants.{Miss, Deep}
 
 -- Parsers over a byte or a class -------------------------------------------
 
@@ -30,14 +29,14 @@ error_of class = complain (mws errorᵏ 0 (leaf (run1 (among class false))))
 -- Quiet readers ------------------------------------------------------------
 
 abbrev pub met_of : Read → Bool
-met_of (ReadGot d) = d.met
-met_of (ReadMiss m) = m
-met_of ReadDeep = false
+met_of (Ok d) = d.met
+met_of (Err (Miss m)) = m
+met_of (Err Deep) = false
 
 abbrev pub done_from : Read → Counts → Done
-done_from (ReadGot d) x = Got (cursor d.at.0 d.count.0 false) x
-done_from (ReadMiss m) x = Miss x
-done_from ReadDeep x = Deep
+done_from (Ok d) x = Ok (cursor d.at.0 d.count.0 false, x)
+done_from (Err (Miss m)) x = Err (Miss x)
+done_from (Err Deep) x = Err Deep
 
 -- f with the state st, in a text that ends at n
 pub record Lifted (n : ℕ) (f : Read) (st : Counts) (e e' : List ℕ) (r : Done) : Type 0 where
@@ -74,7 +73,7 @@ closed_rows kind detail c k d t =
 
 pub record Closed (scope : Bool) (kind : ℕ) (c : Cursor) (k : Skip) (d : Cursor) (st : Counts) (t t' : List ℕ) (r : Done) : Type 0 where
   pub table : t' ≡ closed_rows kind (closed_detail scope st) c k d t
-  pub answer : r ≡ Got (cursor d.at.0 (d.count.0 + 1) false) (closed_state scope st)
+  pub answer : r ≡ Ok (cursor d.at.0 (d.count.0 + 1) false, closed_state scope st)
 
 abbrev pub imported_state : Counts → Counts
 imported_state st = record { scope = st.scope + 1; swallow = st.swallow; errors = st.errors; requests = st.requests + 1 }
@@ -82,7 +81,7 @@ imported_state st = record { scope = st.scope + 1; swallow = st.swallow; errors 
 pub record Imported (low high : ℕ) (c : Cursor) (k : Skip) (d : Cursor) (st : Counts) (t t' q q' : List ℕ) (r : Done) : Type 0 where
   pub rows : t' ≡ closed_rows importᵏ (st.scope + 1) c k d t
   pub requests : q' ≡ pushed request_width q st.requests (request_record low high)
-  pub answer : r ≡ Got (cursor d.at.0 (d.count.0 + 1) false) (imported_state st)
+  pub answer : r ≡ Ok (cursor d.at.0 (d.count.0 + 1) false, imported_state st)
 
 -- Behind a head ------------------------------------------------------------
 
@@ -97,8 +96,8 @@ pub record Begins (m : Parser) (s : List ℕ) (i low : ℕ) : Type 0 where
 
 -- a head has answered h, and where it fits what follows may be read
 pub record Headed (s : List ℕ) (c : Cursor) (h : Done) : Type 0 where
-  pub fit : (d : Cursor) (x : Counts) → h ≡ Got d x → Fit 0 s d x
-  pub grown : (d : Cursor) (x : Counts) → h ≡ Got d x → c.count.0 ≤ d.count.0
+  pub fit : (d : Cursor) (x : Counts) → h ≡ Ok (d, x) → Fit 0 s d x
+  pub grown : (d : Cursor) (x : Counts) → h ≡ Ok (d, x) → c.count.0 ≤ d.count.0
 
 -- the rest of a statement, whatever its head m ▸ n was
 pub record Ends (b : Body) (scope : Bool) (kind : ℕ) (s : List ℕ) (c : Cursor) (k : Skip) (h : Done) (left : ℕ) (T T' : Tables) (r : Done) : Type 0 where

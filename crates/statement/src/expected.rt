@@ -18,13 +18,12 @@ fn map(s: &[u8], c: Cursor, st: State, left: usize, rows: &mut [u32], errors: &m
     requires { Fit 0 s.now c st }
     ensures { Tells (expect 4 config_map) s.now c st left rows.old rows.new errors.old errors.new result }
 {
-    let at = c.at;
     let f = config_map::config_map(s, Cursor { met: false, ..c }, left, rows);
     let x = match lifted(s, st, f, errors) {
         Err(Stop::Miss(x)) => x,
         done => return done,
     };
-    let y = state::report(x, 4, at, at, errors);
+    let y = state::report(x, 4, c.at, c.at, errors);
     Ok((Cursor { met: false, ..c }, y))
 }
 
@@ -52,13 +51,12 @@ fn values(s: &[u8], c: Cursor, st: State, left: usize, rows: &mut [u32], errors:
     requires le_at { 1 ≤ c.at.0 }
     ensures { Tells (expect 3 expression_arg_list) s.now c st left rows.old rows.new errors.old errors.new result }
 {
-    let at = c.at;
     let f = directive::expression_arg_list(s, Cursor { met: false, ..c }, left, rows);
     let x = match lifted(s, st, f, errors) {
         Err(Stop::Miss(x)) => x,
         done => return done,
     };
-    let y = state::report(x, 3, at, at, errors);
+    let y = state::report(x, 3, c.at, c.at, errors);
     Ok((Cursor { met: false, ..c }, y))
 }
 

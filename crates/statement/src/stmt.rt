@@ -50,15 +50,16 @@ fn items(
     requires le_at { 1 ≤ c.at.0 }
     ensures { Does (many0 block_item) s.now c st left (tables rows.old errors.old requests.old) (tables rows.new errors.new requests.new) result }
 {
-    let mut next = Cursor { met: false, ..c };
+    let mut next = c;
     let mut state = st;
     loop {
-        match item(s, next, state, left, rows, errors, requests) {
+        let start = Cursor { met: false, ..next };
+        match item(s, start, state, left, rows, errors, requests) {
             Ok((d, x)) => {
-                next = Cursor { met: false, ..d };
+                next = d;
                 state = x;
             }
-            Err(Stop::Miss(x)) => return Ok((next, x)),
+            Err(Stop::Miss(x)) => return Ok((start, x)),
             Err(Stop::Deep) => return Err(Stop::Deep),
         }
     }

@@ -1,23 +1,27 @@
+use mathlib.Core.Path.{refl}
+use Rattle.std.proofs.lemmas.Result.{err_from_is_err_and}
 use native.Mathlib.Omega.{arith}
 use Rattle.statement.proofs.Tests.{eof_sober, eof_debt}
 use Rattle.statement.proofs.Drafts.{fit_count, lined_out, lined_got, numbered_behind, few_behind}
 use Rattle.statement.proofs.end.Goals as goal
 
-pub returns-in_default : goal.returns-in_default
-returns-in_default c = lined_out c.eof_behind-r.ensures c.in_default.not-Got
+pub returns-in_err-d : goal.returns-in_err-d
+returns-in_err-d c =
+    let p = err_from_is_err_and c.from_residual.result c.from_residual.ensures.1 in
+    rw (p.1, p.2) (lined_out c.in_err-d.ensures refl)
 
 pub overflow_add-n : goal.overflow_add-n
 overflow_add-n c =
     omega (
       arith,
-      few_behind c.eof_behind-r.ensures c.in-Got.d c.in-Got.x c.in-Got.is c.requires.fit eof_sober c.requires.on.1,
+      few_behind c.in_ok-d.ensures c.in_ok-d.d c.in_ok-d.x refl c.requires.fit eof_sober c.requires.on.1,
       eof_debt,
       fit_count c.requires.fit,
     )
 
 pub number-requires : goal.number-requires
 number-requires c =
-    (c.requires.fit.small, c.requires.on.0, omega arith, numbered_behind c.eof_behind-r.ensures c.in-Got.d c.in-Got.x c.in-Got.is c.requires.on.1)
+    (c.requires.fit.small, c.requires.on.0, omega arith, numbered_behind c.in_ok-d.ensures c.in_ok-d.d c.in_ok-d.x refl c.requires.on.1)
 
 pub returns : goal.returns
-returns c = lined_got c.eof_behind-r.ensures c.in-Got.d c.in-Got.x c.in-Got.is c.number.ensures.1
+returns c = lined_got c.in_ok-d.ensures c.in_ok-d.d c.in_ok-d.x refl c.number.ensures.1

@@ -1,3 +1,5 @@
+use mathlib.Core.Path.{refl}
+use Rattle.std.proofs.lemmas.Result.{err_from_is_err_and}
 use Rattle.statement.proofs.Lifts.{spans}
 use Rattle.statement.proofs.Tests.{size_paid, data_paid, size_moves}
 use Rattle.statement.proofs.Quiets.{data_out, data_values_out, data_got}
@@ -6,29 +8,33 @@ use native.Mathlib.Omega.{arith}
 use mathlib.Core.List.{[]}
 use Rattle.statement.proofs.expected.data.Goals as goal
 
-pub returns-in_default : goal.returns-in_default
-returns-in_default c = data_out c.data_head-f.ensures c.in_default.not-Got
+pub returns-in_err-d : goal.returns-in_err-d
+returns-in_err-d c =
+    let p = err_from_is_err_and c.from_residual.result c.from_residual.ensures.1 in
+    rw (p.1, p.2) (data_out c.in_err-d.ensures refl)
 
-pub values-g-requires-clause-fit : goal.values-g-requires-clause-fit
-values-g-requires-clause-fit c = fit_then (c.data_head-f.ensures.does 0 []) c.requires.fit size_paid c.in-Got.d c.in-Got.x c.in-Got.is
+pub values-requires-clause-fit : goal.values-requires-clause-fit
+values-requires-clause-fit c = fit_then (c.in_ok-d.ensures.does 0 []) c.requires.fit size_paid c.in_ok-d.d c.in_ok-d.x refl
 
-pub values-g-requires-clause-le_at : goal.values-g-requires-clause-le_at
-values-g-requires-clause-le_at c =
-    let m = moved_then (c.data_head-f.ensures.does 0 []) c.requires.fit size_moves c.in-Got.d c.in-Got.x c.in-Got.is in
+pub values-requires-clause-le_at : goal.values-requires-clause-le_at
+values-requires-clause-le_at c =
+    let m = moved_then (c.in_ok-d.ensures.does 0 []) c.requires.fit size_moves c.in_ok-d.d c.in_ok-d.x refl in
     omega (arith, m)
 
-pub returns-in_default-g : goal.returns-in_default-g
-returns-in_default-g c = data_values_out c.data_head-f.ensures c.in-Got.d c.in-Got.x c.in-Got.is c.values-g.ensures c.in_default-g.not-Got
+pub returns-in_err-e : goal.returns-in_err-e
+returns-in_err-e c =
+    let p = err_from_is_err_and c.from_residual-in_err-e.result c.from_residual-in_err-e.ensures.1 in
+    rw (p.1, p.2) (data_values_out c.in_ok-d.ensures c.in_ok-d.d c.in_ok-d.x refl c.in_err-e.ensures refl)
 
-pub close-requires-clause-spans : goal.close-requires-clause-spans
-close-requires-clause-spans c =
-    let d = does_then (c.data_head-f.ensures.does _ []) c.in-Got.d c.in-Got.x c.in-Got.is (c.values-g.ensures.does []) in
-    let ef = fit_then d c.requires.fit data_paid c.in-Got-g.e c.in-Got-g.y c.in-Got-g.is in let eg = grown_then d c.requires.fit data_paid
-    c.in-Got-g.e c.in-Got-g.y c.in-Got-g.is in spans c.requires.skips ef eg
+pub close-requires : goal.close-requires
+close-requires c =
+    let d = does_then (c.in_ok-d.ensures.does _ []) c.in_ok-d.d c.in_ok-d.x refl (c.in_ok-e.ensures.does []) in
+    let ef = fit_then d c.requires.fit data_paid c.in_ok-e.e c.in_ok-e.y refl in let eg = grown_then d c.requires.fit data_paid
+    c.in_ok-e.e c.in_ok-e.y refl in spans c.requires.skips ef eg
 
 pub returns : goal.returns
 returns c =
-    let d = does_then (c.data_head-f.ensures.does _ []) c.in-Got.d c.in-Got.x c.in-Got.is (c.values-g.ensures.does []) in
-    let ef = fit_then d c.requires.fit data_paid c.in-Got-g.e c.in-Got-g.y c.in-Got-g.is in let eg = grown_then d c.requires.fit data_paid
-    c.in-Got-g.e c.in-Got-g.y c.in-Got-g.is in data_got c.data_head-f.ensures c.in-Got.d c.in-Got.x c.in-Got.is c.values-g.ensures c.requires.skips
-    c.in-Got-g.e c.in-Got-g.y c.in-Got-g.is eg c.close.ensures
+    let d = does_then (c.in_ok-d.ensures.does _ []) c.in_ok-d.d c.in_ok-d.x refl (c.in_ok-e.ensures.does []) in
+    let ef = fit_then d c.requires.fit data_paid c.in_ok-e.e c.in_ok-e.y refl in let eg = grown_then d c.requires.fit data_paid
+    c.in_ok-e.e c.in_ok-e.y refl in data_got c.in_ok-d.ensures c.in_ok-d.d c.in_ok-d.x refl c.in_ok-e.ensures c.requires.skips
+    c.in_ok-e.e c.in_ok-e.y refl eg c.close.ensures

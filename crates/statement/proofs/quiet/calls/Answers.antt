@@ -1,3 +1,6 @@
+use mathlib.Core.Path.{ap, ◌∙◌}
+use Rattle.std.specs.Prelude.{Err}
+use native.Mathlib.Omega.{arith}
 use Rattle.statement.proofs.Quiets.{tells_first, tells_next}
 use Rattle.statement.proofs.Chains.{fit_next}
 use Rattle.statement.proofs.Tests.{quiet_sober}
@@ -5,10 +8,13 @@ use mathlib.Core.List.{[]}
 use Rattle.statement.proofs.quiet.calls.Goals as goal
 
 pub returns-in_default : goal.returns-in_default
-returns-in_default c = tells_first c.invoke-r.ensures c.in_default.not-Miss
+returns-in_default c = tells_first c.in_default.ensures (λ m e. grind arith)
+
+pub returns-in_default-2 : goal.returns-in_default-2
+returns-in_default-2 c = tells_first c.invoke.ensures (λ m e. grind arith)
 
 pub data-requires-clause-fit : goal.data-requires-clause-fit
-data-requires-clause-fit c = fit_next (c.invoke-r.ensures.does []) c.requires.fit quiet_sober.4 c.in-Miss.st c.in-Miss.is
+data-requires-clause-fit c = fit_next (c.invoke.ensures.does []) c.requires.fit quiet_sober.4 c.in-Err-Miss.st (c.in-Err-Miss.is ∙ ap Err c.in-Err-Miss.field-0-is)
 
 pub returns : goal.returns
-returns c = tells_next c.invoke-r.ensures c.in-Miss.st c.in-Miss.is c.«data».ensures
+returns c = tells_next c.invoke.ensures c.in-Err-Miss.st (c.in-Err-Miss.is ∙ ap Err c.in-Err-Miss.field-0-is) c.«data».ensures

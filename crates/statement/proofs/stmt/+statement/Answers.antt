@@ -1,3 +1,6 @@
+use Rattle.std.proofs.lemmas.Result.{err_from_is_err_and}
+use mathlib.Core.Path.{ap, ◌∙◌}
+use Rattle.std.specs.Prelude.{Err}
 use mathlib.Core.List.{[]}
 use mathlib.Core.Path.{refl}
 use native.Mathlib.Omega.{arith}
@@ -22,415 +25,478 @@ body-returns-in-Block t c = body_block c.in-Block.is c.block.ensures
 pub body-returns-in-Branches : goal.body-returns-in-Branches
 body-returns-in-Branches t c = body_branches c.in-Branches.is c.branches.ensures
 
-pub braced-returns-in_default : goal.braced-returns-in_default
-braced-returns-in_default t c = block_no_brace c.mark-f.ensures c.in_default.not-Got
+pub braced-returns-in_err-d : goal.braced-returns-in_err-d
+braced-returns-in_err-d t c =
+    let p = err_from_is_err_and c.from_residual.result c.from_residual.ensures.1 in
+    rw (p.1, p.2) (block_no_brace c.in_err-d.ensures refl)
 
 pub braced-returns-then-left-eq0 : goal.braced-returns-then-left-eq0
-braced-returns-then-left-eq0 t c = block_too_deep c.mark-f.ensures c.in-Got.d c.in-Got.x c.in-Got.is c.if-left-eq0.true
+braced-returns-then-left-eq0 t c = block_too_deep c.in_ok-d.ensures c.in_ok-d.d c.in_ok-d.x refl c.if-left-eq0.true
 
 pub braced-overflow_sub-low : goal.braced-overflow_sub-low
 braced-overflow_sub-low t c =
-    let bf = brace_fit c.mark-f.ensures c.requires.fit c.in-Got.d c.in-Got.x c.in-Got.is in
-    let ba = brace_at c.mark-f.ensures c.requires.fit c.in-Got.d c.in-Got.x c.in-Got.is in let bg = brace_grown c.mark-f.ensures c.requires.fit
-    c.in-Got.d c.in-Got.x c.in-Got.is in omega (arith, ba)
+    let bf = brace_fit c.in_ok-d.ensures c.requires.fit c.in_ok-d.d c.in_ok-d.x refl in
+    let ba = brace_at c.in_ok-d.ensures c.requires.fit c.in_ok-d.d c.in_ok-d.x refl in let bg = brace_grown c.in_ok-d.ensures c.requires.fit
+    c.in_ok-d.d c.in_ok-d.x refl in omega (arith, ba)
 
-pub braced-items-g-requires : goal.braced-items-g-requires
-braced-items-g-requires t c =
-    let bf = brace_fit c.mark-f.ensures c.requires.fit c.in-Got.d c.in-Got.x c.in-Got.is in
-    let ba = brace_at c.mark-f.ensures c.requires.fit c.in-Got.d c.in-Got.x c.in-Got.is in let bg = brace_grown c.mark-f.ensures c.requires.fit
-    c.in-Got.d c.in-Got.x c.in-Got.is in (omega (arith, c.if-left-eq0.false), (bf, omega (arith, ba)))
+pub braced-items-requires : goal.braced-items-requires
+braced-items-requires t c =
+    let bf = brace_fit c.in_ok-d.ensures c.requires.fit c.in_ok-d.d c.in_ok-d.x refl in
+    let ba = brace_at c.in_ok-d.ensures c.requires.fit c.in_ok-d.d c.in_ok-d.x refl in let bg = brace_grown c.in_ok-d.ensures c.requires.fit
+    c.in_ok-d.d c.in_ok-d.x refl in (omega (arith, c.if-left-eq0.false), (bf, omega (arith, ba)))
 
-pub braced-returns-in_default-g : goal.braced-returns-in_default-g
-braced-returns-in_default-g t c =
-    block_items_out c.mark-f.ensures c.in-Got.d c.in-Got.x c.in-Got.is c.if-left-eq0.false c.items-g.ensures c.in_default-g.not-Got
+pub braced-returns-in_err-e : goal.braced-returns-in_err-e
+braced-returns-in_err-e t c =
+    let p = err_from_is_err_and c.from_residual-in_err-e.result c.from_residual-in_err-e.ensures.1 in
+    rw (p.1, p.2) (block_items_out c.in_ok-d.ensures c.in_ok-d.d c.in_ok-d.x refl c.if-left-eq0.false c.in_err-e.ensures refl)
 
-pub braced-close-h-requires-clause-fit : goal.braced-close-h-requires-clause-fit
-braced-close-h-requires-clause-fit t c =
-    let bf = brace_fit c.mark-f.ensures c.requires.fit c.in-Got.d c.in-Got.x c.in-Got.is in
-    let ba = brace_at c.mark-f.ensures c.requires.fit c.in-Got.d c.in-Got.x c.in-Got.is in let bg = brace_grown c.mark-f.ensures c.requires.fit
-    c.in-Got.d c.in-Got.x c.in-Got.is in let jf = items_fit bf c.items-g.ensures c.in-Got-g.e c.in-Got-g.y c.in-Got-g.is in let jg = items_grown bf
-    c.items-g.ensures c.in-Got-g.e c.in-Got-g.y c.in-Got-g.is in jf
+pub braced-close-requires-clause-fit : goal.braced-close-requires-clause-fit
+braced-close-requires-clause-fit t c =
+    let bf = brace_fit c.in_ok-d.ensures c.requires.fit c.in_ok-d.d c.in_ok-d.x refl in
+    let ba = brace_at c.in_ok-d.ensures c.requires.fit c.in_ok-d.d c.in_ok-d.x refl in let bg = brace_grown c.in_ok-d.ensures c.requires.fit
+    c.in_ok-d.d c.in_ok-d.x refl in let jf = items_fit bf c.in_ok-e.ensures c.in_ok-e.e c.in_ok-e.y refl in let jg = items_grown bf
+    c.in_ok-e.ensures c.in_ok-e.e c.in_ok-e.y refl in jf
 
-pub braced-close-h-requires-clause-tlow_in_bounds : goal.braced-close-h-requires-clause-tlow_in_bounds
-braced-close-h-requires-clause-tlow_in_bounds t c =
-    let bf = brace_fit c.mark-f.ensures c.requires.fit c.in-Got.d c.in-Got.x c.in-Got.is in
-    let ba = brace_at c.mark-f.ensures c.requires.fit c.in-Got.d c.in-Got.x c.in-Got.is in let bg = brace_grown c.mark-f.ensures c.requires.fit
-    c.in-Got.d c.in-Got.x c.in-Got.is in let jf = items_fit bf c.items-g.ensures c.in-Got-g.e c.in-Got-g.y c.in-Got-g.is in let jg = items_grown bf
-    c.items-g.ensures c.in-Got-g.e c.in-Got-g.y c.in-Got-g.is in (c.requires.fit.within, omega (arith, bf.within, ba))
+pub braced-close-requires-clause-tlow_in_bounds : goal.braced-close-requires-clause-tlow_in_bounds
+braced-close-requires-clause-tlow_in_bounds t c =
+    let bf = brace_fit c.in_ok-d.ensures c.requires.fit c.in_ok-d.d c.in_ok-d.x refl in
+    let ba = brace_at c.in_ok-d.ensures c.requires.fit c.in_ok-d.d c.in_ok-d.x refl in let bg = brace_grown c.in_ok-d.ensures c.requires.fit
+    c.in_ok-d.d c.in_ok-d.x refl in let jf = items_fit bf c.in_ok-e.ensures c.in_ok-e.e c.in_ok-e.y refl in let jg = items_grown bf
+    c.in_ok-e.ensures c.in_ok-e.e c.in_ok-e.y refl in (c.requires.fit.within, omega (arith, bf.within, ba))
 
-pub braced-returns-in_default-h : goal.braced-returns-in_default-h
-braced-returns-in_default-h t c =
-    let bf = brace_fit c.mark-f.ensures c.requires.fit c.in-Got.d c.in-Got.x c.in-Got.is in
-    let ba = brace_at c.mark-f.ensures c.requires.fit c.in-Got.d c.in-Got.x c.in-Got.is in let bg = brace_grown c.mark-f.ensures c.requires.fit
-    c.in-Got.d c.in-Got.x c.in-Got.is in block_end_out c.mark-f.ensures c.in-Got.d c.in-Got.x c.in-Got.is c.if-left-eq0.false c.items-g.ensures
-    (omega (arith, ba)) c.in-Got-g.e c.in-Got-g.y c.in-Got-g.is c.close-h.ensures c.in_default-h.not-Got
+pub braced-returns-in_err-j : goal.braced-returns-in_err-j
+braced-returns-in_err-j t c =
+    let p = err_from_is_err_and c.from_residual-in_err-j.result c.from_residual-in_err-j.ensures.1 in
+    rw (p.1, p.2) (let bf = brace_fit c.in_ok-d.ensures c.requires.fit c.in_ok-d.d c.in_ok-d.x refl in
+    let ba = brace_at c.in_ok-d.ensures c.requires.fit c.in_ok-d.d c.in_ok-d.x refl in let bg = brace_grown c.in_ok-d.ensures c.requires.fit
+    c.in_ok-d.d c.in_ok-d.x refl in block_end_out c.in_ok-d.ensures c.in_ok-d.d c.in_ok-d.x refl c.if-left-eq0.false c.in_ok-e.ensures
+    (omega (arith, ba)) c.in_ok-e.e c.in_ok-e.y refl c.in_err-j.ensures refl)
 
 pub braced-overflow_add-n : goal.braced-overflow_add-n
 braced-overflow_add-n t c =
-    let bf = brace_fit c.mark-f.ensures c.requires.fit c.in-Got.d c.in-Got.x c.in-Got.is in
-    let ba = brace_at c.mark-f.ensures c.requires.fit c.in-Got.d c.in-Got.x c.in-Got.is in let bg = brace_grown c.mark-f.ensures c.requires.fit
-    c.in-Got.d c.in-Got.x c.in-Got.is in let jf = items_fit bf c.items-g.ensures c.in-Got-g.e c.in-Got-g.y c.in-Got-g.is in let jg = items_grown bf
-    c.items-g.ensures c.in-Got-g.e c.in-Got-g.y c.in-Got-g.is in let en = ended jf.within c.close-h.ensures c.in-Got-h.j c.in-Got-h.z c.in-Got-h.is in
+    let bf = brace_fit c.in_ok-d.ensures c.requires.fit c.in_ok-d.d c.in_ok-d.x refl in
+    let ba = brace_at c.in_ok-d.ensures c.requires.fit c.in_ok-d.d c.in_ok-d.x refl in let bg = brace_grown c.in_ok-d.ensures c.requires.fit
+    c.in_ok-d.d c.in_ok-d.x refl in let jf = items_fit bf c.in_ok-e.ensures c.in_ok-e.e c.in_ok-e.y refl in let jg = items_grown bf
+    c.in_ok-e.ensures c.in_ok-e.e c.in_ok-e.y refl in let en = ended jf.within c.in_ok-j.ensures c.in_ok-j.j c.in_ok-j.z refl in
     omega (arith, c.requires.fit.small, c.requires.fit.within, bf.within, ba, bg, jf.few, jf.within, jg, en.on, en.within, en.count)
 
 pub braced-overflow_sub-n : goal.braced-overflow_sub-n
 braced-overflow_sub-n t c =
-    let bf = brace_fit c.mark-f.ensures c.requires.fit c.in-Got.d c.in-Got.x c.in-Got.is in
-    let ba = brace_at c.mark-f.ensures c.requires.fit c.in-Got.d c.in-Got.x c.in-Got.is in let bg = brace_grown c.mark-f.ensures c.requires.fit
-    c.in-Got.d c.in-Got.x c.in-Got.is in let jf = items_fit bf c.items-g.ensures c.in-Got-g.e c.in-Got-g.y c.in-Got-g.is in let jg = items_grown bf
-    c.items-g.ensures c.in-Got-g.e c.in-Got-g.y c.in-Got-g.is in let en = ended jf.within c.close-h.ensures c.in-Got-h.j c.in-Got-h.z c.in-Got-h.is in
+    let bf = brace_fit c.in_ok-d.ensures c.requires.fit c.in_ok-d.d c.in_ok-d.x refl in
+    let ba = brace_at c.in_ok-d.ensures c.requires.fit c.in_ok-d.d c.in_ok-d.x refl in let bg = brace_grown c.in_ok-d.ensures c.requires.fit
+    c.in_ok-d.d c.in_ok-d.x refl in let jf = items_fit bf c.in_ok-e.ensures c.in_ok-e.e c.in_ok-e.y refl in let jg = items_grown bf
+    c.in_ok-e.ensures c.in_ok-e.e c.in_ok-e.y refl in let en = ended jf.within c.in_ok-j.ensures c.in_ok-j.j c.in_ok-j.z refl in
     omega (arith, c.requires.fit.small, c.requires.fit.within, bf.within, ba, bg, jf.few, jf.within, jg, en.on, en.within, en.count)
 
 pub braced-push_row-requires : goal.braced-push_row-requires
 braced-push_row-requires t c =
-    let bf = brace_fit c.mark-f.ensures c.requires.fit c.in-Got.d c.in-Got.x c.in-Got.is in
-    let ba = brace_at c.mark-f.ensures c.requires.fit c.in-Got.d c.in-Got.x c.in-Got.is in let bg = brace_grown c.mark-f.ensures c.requires.fit
-    c.in-Got.d c.in-Got.x c.in-Got.is in let jf = items_fit bf c.items-g.ensures c.in-Got-g.e c.in-Got-g.y c.in-Got-g.is in let jg = items_grown bf
-    c.items-g.ensures c.in-Got-g.e c.in-Got-g.y c.in-Got-g.is in let en = ended jf.within c.close-h.ensures c.in-Got-h.j c.in-Got-h.z c.in-Got-h.is in
+    let bf = brace_fit c.in_ok-d.ensures c.requires.fit c.in_ok-d.d c.in_ok-d.x refl in
+    let ba = brace_at c.in_ok-d.ensures c.requires.fit c.in_ok-d.d c.in_ok-d.x refl in let bg = brace_grown c.in_ok-d.ensures c.requires.fit
+    c.in_ok-d.d c.in_ok-d.x refl in let jf = items_fit bf c.in_ok-e.ensures c.in_ok-e.e c.in_ok-e.y refl in let jg = items_grown bf
+    c.in_ok-e.ensures c.in_ok-e.e c.in_ok-e.y refl in let en = ended jf.within c.in_ok-j.ensures c.in_ok-j.j c.in_ok-j.z refl in
     omega (arith, c.requires.fit.small, c.requires.fit.within, bf.within, ba, bg, jf.few, jf.within, jg, en.on, en.within, en.count)
 
-pub braced-overflow_add-result : goal.braced-overflow_add-result
-braced-overflow_add-result t c =
-    let bf = brace_fit c.mark-f.ensures c.requires.fit c.in-Got.d c.in-Got.x c.in-Got.is in
-    let ba = brace_at c.mark-f.ensures c.requires.fit c.in-Got.d c.in-Got.x c.in-Got.is in let bg = brace_grown c.mark-f.ensures c.requires.fit
-    c.in-Got.d c.in-Got.x c.in-Got.is in let jf = items_fit bf c.items-g.ensures c.in-Got-g.e c.in-Got-g.y c.in-Got-g.is in let jg = items_grown bf
-    c.items-g.ensures c.in-Got-g.e c.in-Got-g.y c.in-Got-g.is in let en = ended jf.within c.close-h.ensures c.in-Got-h.j c.in-Got-h.z c.in-Got-h.is in
+pub braced-overflow_add-end : goal.braced-overflow_add-end
+braced-overflow_add-end t c =
+    let bf = brace_fit c.in_ok-d.ensures c.requires.fit c.in_ok-d.d c.in_ok-d.x refl in
+    let ba = brace_at c.in_ok-d.ensures c.requires.fit c.in_ok-d.d c.in_ok-d.x refl in let bg = brace_grown c.in_ok-d.ensures c.requires.fit
+    c.in_ok-d.d c.in_ok-d.x refl in let jf = items_fit bf c.in_ok-e.ensures c.in_ok-e.e c.in_ok-e.y refl in let jg = items_grown bf
+    c.in_ok-e.ensures c.in_ok-e.e c.in_ok-e.y refl in let en = ended jf.within c.in_ok-j.ensures c.in_ok-j.j c.in_ok-j.z refl in
     omega (arith, c.requires.fit.small, c.requires.fit.within, bf.within, ba, bg, jf.few, jf.within, jg, en.on, en.within, en.count)
 
 pub braced-returns : goal.braced-returns
 braced-returns t c =
-    let bf = brace_fit c.mark-f.ensures c.requires.fit c.in-Got.d c.in-Got.x c.in-Got.is in
-    let ba = brace_at c.mark-f.ensures c.requires.fit c.in-Got.d c.in-Got.x c.in-Got.is in let bg = brace_grown c.mark-f.ensures c.requires.fit
-    c.in-Got.d c.in-Got.x c.in-Got.is in let jf = items_fit bf c.items-g.ensures c.in-Got-g.e c.in-Got-g.y c.in-Got-g.is in let jg = items_grown bf
-    c.items-g.ensures c.in-Got-g.e c.in-Got-g.y c.in-Got-g.is in let en = ended jf.within c.close-h.ensures c.in-Got-h.j c.in-Got-h.z c.in-Got-h.is in
-    block_whole c.mark-f.ensures c.in-Got.d c.in-Got.x c.in-Got.is c.if-left-eq0.false c.items-g.ensures (omega (arith, ba)) c.in-Got-g.e c.in-Got-g.y
-    c.in-Got-g.is c.close-h.ensures c.in-Got-h.j c.in-Got-h.z c.in-Got-h.is (omega (arith, bg, jg, en.count)) c.push_row.ensures
+    let bf = brace_fit c.in_ok-d.ensures c.requires.fit c.in_ok-d.d c.in_ok-d.x refl in
+    let ba = brace_at c.in_ok-d.ensures c.requires.fit c.in_ok-d.d c.in_ok-d.x refl in let bg = brace_grown c.in_ok-d.ensures c.requires.fit
+    c.in_ok-d.d c.in_ok-d.x refl in let jf = items_fit bf c.in_ok-e.ensures c.in_ok-e.e c.in_ok-e.y refl in let jg = items_grown bf
+    c.in_ok-e.ensures c.in_ok-e.e c.in_ok-e.y refl in let en = ended jf.within c.in_ok-j.ensures c.in_ok-j.j c.in_ok-j.z refl in
+    block_whole c.in_ok-d.ensures c.in_ok-d.d c.in_ok-d.x refl c.if-left-eq0.false c.in_ok-e.ensures (omega (arith, ba)) c.in_ok-e.e c.in_ok-e.y
+    refl c.in_ok-j.ensures c.in_ok-j.j c.in_ok-j.z refl (omega (arith, bg, jg, en.count)) c.push_row.ensures
 
-pub braces-returns-in_default : goal.braces-returns-in_default
-braces-returns-in_default t c = braces_out c.requires.skips c.braced-f.ensures c.in_default.not-Got
+pub braces-returns-in_err-d : goal.braces-returns-in_err-d
+braces-returns-in_err-d t c =
+    let p = err_from_is_err_and c.from_residual.result c.from_residual.ensures.1 in
+    rw (p.1, p.2) (braces_out c.requires.skips c.in_err-d.ensures refl)
 
-pub braces-close-requires-clause-spans : goal.braces-close-requires-clause-spans
-braces-close-requires-clause-spans t c =
-    let df = fit_then c.braced-f.ensures c.requires.fit block_paid c.in-Got.d c.in-Got.x c.in-Got.is in
-    let dg = grown_then c.braced-f.ensures c.requires.fit block_paid c.in-Got.d c.in-Got.x c.in-Got.is in spans c.requires.skips df dg
+pub braces-close-requires : goal.braces-close-requires
+braces-close-requires t c =
+    let df = fit_then c.in_ok-d.ensures c.requires.fit block_paid c.in_ok-d.d c.in_ok-d.x refl in
+    let dg = grown_then c.in_ok-d.ensures c.requires.fit block_paid c.in_ok-d.d c.in_ok-d.x refl in spans c.requires.skips df dg
 
 pub braces-returns : goal.braces-returns
 braces-returns t c =
-    let df = fit_then c.braced-f.ensures c.requires.fit block_paid c.in-Got.d c.in-Got.x c.in-Got.is in
-    let dg = grown_then c.braced-f.ensures c.requires.fit block_paid c.in-Got.d c.in-Got.x c.in-Got.is in braces_got c.requires.skips
-    c.braced-f.ensures c.in-Got.d c.in-Got.x c.in-Got.is dg c.close.ensures
+    let df = fit_then c.in_ok-d.ensures c.requires.fit block_paid c.in_ok-d.d c.in_ok-d.x refl in
+    let dg = grown_then c.in_ok-d.ensures c.requires.fit block_paid c.in_ok-d.d c.in_ok-d.x refl in braces_got c.requires.skips
+    c.in_ok-d.ensures c.in_ok-d.d c.in_ok-d.x refl dg c.close.ensures
+
+pub branches-returns-in_err-d : goal.branches-returns-in_err-d
+branches-returns-in_err-d t c =
+    let p = err_from_is_err_and c.from_residual.result c.from_residual.ensures.1 in
+    rw (p.1, p.2) (does_out c.in_err-d.ensures refl)
+
+pub branches-other-requires : goal.branches-other-requires
+branches-other-requires t c = (omega arith, fit_then c.in_ok-d.ensures c.requires block_paid c.in_ok-d.d c.in_ok-d.x refl)
 
 pub branches-returns-in_default : goal.branches-returns-in_default
-branches-returns-in_default t c = does_out c.block-f.ensures c.in_default.not-Got
+branches-returns-in_default t c = does_then c.in_ok-d.ensures c.in_ok-d.d c.in_ok-d.x refl (does_opt c.in_default.ensures (λ m e. grind arith))
 
-pub branches-other-g-requires : goal.branches-other-g-requires
-branches-other-g-requires t c = (omega arith, fit_then c.block-f.ensures c.requires block_paid c.in-Got.d c.in-Got.x c.in-Got.is)
-
-pub branches-returns-in_default-g : goal.branches-returns-in_default-g
-branches-returns-in_default-g t c = does_then c.block-f.ensures c.in-Got.d c.in-Got.x c.in-Got.is (does_opt c.other-g.ensures c.in_default-g.not-Miss)
+pub branches-returns-in_default-2 : goal.branches-returns-in_default-2
+branches-returns-in_default-2 t c = does_then c.in_ok-d.ensures c.in_ok-d.d c.in_ok-d.x refl (does_opt c.other.ensures (λ m e. grind arith))
 
 pub branches-returns : goal.branches-returns
-branches-returns t c = does_then c.block-f.ensures c.in-Got.d c.in-Got.x c.in-Got.is (does_none c.other-g.ensures c.in-Miss.y c.in-Miss.is)
+branches-returns t c = does_then c.in_ok-d.ensures c.in_ok-d.d c.in_ok-d.x refl (does_none c.other.ensures c.in-Err-Miss.y (c.in-Err-Miss.is ∙ ap Err c.in-Err-Miss.field-0-is))
 
 pub directive-rest-requires : goal.directive-rest-requires
 directive-rest-requires t c =
-    (omega arith, (c.requires.skips.0, (directive_headed _ c.requires.skips.2 c.requires.fit (c.directive_head-h.ensures.does []), c.requires.skips.1)))
+    (omega arith, (c.requires.skips.0, directive_headed _ c.requires.skips.1 c.requires.fit (c.directive_head-h.ensures.does [])))
 
 pub directive-returns : goal.directive-returns
 directive-returns t c = directive_ends c.requires.skips.0 _ (c.directive_head-h.ensures.does _) c.rest.ensures
 
 pub fourth-returns-in_default : goal.fourth-returns-in_default
-fourth-returns-in_default t c = fourth_is (does_first c.import-r.ensures c.in_default.not-Miss)
+fourth-returns-in_default t c = fourth_is (does_first c.in_default.ensures (λ m e. grind arith))
 
-pub fourth-texts-r-requires-clause-fit : goal.fourth-texts-r-requires-clause-fit
-fourth-texts-r-requires-clause-fit t c = fit_next c.import-r.ensures c.requires.fit fourth_sober.0 c.in-Miss.st c.in-Miss.is
+pub fourth-returns-in_default-2 : goal.fourth-returns-in_default-2
+fourth-returns-in_default-2 t c = fourth_is (does_first c.import.ensures (λ m e. grind arith))
 
-pub fourth-returns-in_default-r : goal.fourth-returns-in_default-r
-fourth-returns-in_default-r t c =
-    fourth_is (does_next c.import-r.ensures c.in-Miss.st c.in-Miss.is (does_first (c.texts-r.ensures.does _) c.in_default-r.not-Miss))
+pub fourth-texts-requires-clause-fit : goal.fourth-texts-requires-clause-fit
+fourth-texts-requires-clause-fit t c = fit_next c.import.ensures c.requires.fit fourth_sober.0 c.in-Err-Miss.st (c.in-Err-Miss.is ∙ ap Err c.in-Err-Miss.field-0-is)
 
-pub fourth-directive-r-requires : goal.fourth-directive-r-requires
-fourth-directive-r-requires t c =
-    let h1 = fit_next c.import-r.ensures c.requires.fit fourth_sober.0 c.in-Miss.st c.in-Miss.is in
-    let h2 = fit_next (c.texts-r.ensures.does []) h1 fourth_sober.1 c.in-Miss-r.st c.in-Miss-r.is in
-    (omega arith, (h2, (c.requires.skips, omega arith, omega arith)))
+pub fourth-returns-in_default-texts : goal.fourth-returns-in_default-texts
+fourth-returns-in_default-texts t c = fourth_is (does_next c.import.ensures c.in-Err-Miss.st (c.in-Err-Miss.is ∙ ap Err c.in-Err-Miss.field-0-is) (does_first (c.in_default-texts.ensures.does _) (λ m e. grind arith)))
 
-pub fourth-returns-in_default-r-2 : goal.fourth-returns-in_default-r-2
-fourth-returns-in_default-r-2 t c =
-    fourth_is
-    (does_next c.import-r.ensures c.in-Miss.st c.in-Miss.is
-    (does_next (c.texts-r.ensures.does _) c.in-Miss-r.st c.in-Miss-r.is (does_first (test_is c.directive-r.ensures) c.in_default-r-2.not-Miss)))
+pub fourth-returns-in_default-texts-2 : goal.fourth-returns-in_default-texts-2
+fourth-returns-in_default-texts-2 t c = fourth_is (does_next c.import.ensures c.in-Err-Miss.st (c.in-Err-Miss.is ∙ ap Err c.in-Err-Miss.field-0-is) (does_first (c.texts.ensures.does _) (λ m e. grind arith)))
+
+pub fourth-directive-requires : goal.fourth-directive-requires
+fourth-directive-requires t c =
+    let h1 = fit_next c.import.ensures c.requires.fit fourth_sober.0 c.in-Err-Miss.st (c.in-Err-Miss.is ∙ ap Err c.in-Err-Miss.field-0-is) in
+    let h2 = fit_next (c.texts.ensures.does []) h1 fourth_sober.1 c.in-Err-Miss-texts.st (c.in-Err-Miss-texts.is ∙ ap Err c.in-Err-Miss-texts.field-0-is) in
+    (omega arith, (h2, (c.requires.skips, omega arith)))
+
+pub fourth-returns-in_default-directive : goal.fourth-returns-in_default-directive
+fourth-returns-in_default-directive t c = fourth_is
+    (does_next c.import.ensures c.in-Err-Miss.st (c.in-Err-Miss.is ∙ ap Err c.in-Err-Miss.field-0-is)
+    (does_next (c.texts.ensures.does _) c.in-Err-Miss-texts.st (c.in-Err-Miss-texts.is ∙ ap Err c.in-Err-Miss-texts.field-0-is) (does_first (test_is c.in_default-directive.ensures) (λ m e. grind arith))))
+
+pub fourth-returns-in_default-directive-2 : goal.fourth-returns-in_default-directive-2
+fourth-returns-in_default-directive-2 t c = fourth_is
+    (does_next c.import.ensures c.in-Err-Miss.st (c.in-Err-Miss.is ∙ ap Err c.in-Err-Miss.field-0-is)
+    (does_next (c.texts.ensures.does _) c.in-Err-Miss-texts.st (c.in-Err-Miss-texts.is ∙ ap Err c.in-Err-Miss-texts.field-0-is) (does_first (test_is c.directive.ensures) (λ m e. grind arith))))
 
 pub fourth-checks-requires-clause-fit : goal.fourth-checks-requires-clause-fit
 fourth-checks-requires-clause-fit t c =
-    let h1 = fit_next c.import-r.ensures c.requires.fit fourth_sober.0 c.in-Miss.st c.in-Miss.is in
-    let h2 = fit_next (c.texts-r.ensures.does []) h1 fourth_sober.1 c.in-Miss-r.st c.in-Miss-r.is in let h3 = fit_next (test_is c.directive-r.ensures)
-    h2 fourth_sober.2 c.in-Miss-r-2.st c.in-Miss-r-2.is in h3
+    let h1 = fit_next c.import.ensures c.requires.fit fourth_sober.0 c.in-Err-Miss.st (c.in-Err-Miss.is ∙ ap Err c.in-Err-Miss.field-0-is) in
+    let h2 = fit_next (c.texts.ensures.does []) h1 fourth_sober.1 c.in-Err-Miss-texts.st (c.in-Err-Miss-texts.is ∙ ap Err c.in-Err-Miss-texts.field-0-is) in let h3 = fit_next (test_is c.directive.ensures)
+    h2 fourth_sober.2 c.in-Err-Miss-directive.st (c.in-Err-Miss-directive.is ∙ ap Err c.in-Err-Miss-directive.field-0-is) in h3
 
 pub fourth-returns : goal.fourth-returns
 fourth-returns t c =
     fourth_is
-    (does_next c.import-r.ensures c.in-Miss.st c.in-Miss.is
-    (does_next (c.texts-r.ensures.does _) c.in-Miss-r.st c.in-Miss-r.is
-    (does_next (test_is c.directive-r.ensures) c.in-Miss-r-2.st c.in-Miss-r-2.is (c.checks.ensures.does _))))
+    (does_next c.import.ensures c.in-Err-Miss.st (c.in-Err-Miss.is ∙ ap Err c.in-Err-Miss.field-0-is)
+    (does_next (c.texts.ensures.does _) c.in-Err-Miss-texts.st (c.in-Err-Miss-texts.is ∙ ap Err c.in-Err-Miss-texts.field-0-is)
+    (does_next (test_is c.directive.ensures) c.in-Err-Miss-directive.st (c.in-Err-Miss-directive.is ∙ ap Err c.in-Err-Miss-directive.field-0-is) (c.checks.ensures.does _))))
 
-pub import-returns-in_default : goal.import-returns-in_default
-import-returns-in_default t c = import_head_out (c.import_head-f.ensures.does _ _) c.in_default.not-Got
+pub import-returns-in_err-d : goal.import-returns-in_err-d
+import-returns-in_err-d t c =
+    let p = err_from_is_err_and c.from_residual.result c.from_residual.ensures.1 in
+    rw (p.1, p.2) (import_head_out (c.in_err-d.ensures.does _ _) refl)
 
 pub import-trivia-quote-requires : goal.import-trivia-quote-requires
 import-trivia-quote-requires t c =
-    let f1 = fit_then (c.import_head-f.ensures.does 0 []) c.requires.fit import_paid c.in-Got.d c.in-Got.x c.in-Got.is in
-    let g1 = grown_then (c.import_head-f.ensures.does 0 []) c.requires.fit import_paid c.in-Got.d c.in-Got.x c.in-Got.is in f1.within
+    let f1 = fit_then (c.in_ok-d.ensures.does 0 []) c.requires.fit import_paid c.in_ok-d.d c.in_ok-d.x refl in
+    let g1 = grown_then (c.in_ok-d.ensures.does 0 []) c.requires.fit import_paid c.in_ok-d.d c.in_ok-d.x refl in f1.within
 
-pub import-import_file-g-requires : goal.import-import_file-g-requires
-import-import_file-g-requires t c =
-    let f1 = fit_then (c.import_head-f.ensures.does 0 []) c.requires.fit import_paid c.in-Got.d c.in-Got.x c.in-Got.is in
-    let g1 = grown_then (c.import_head-f.ensures.does 0 []) c.requires.fit import_paid c.in-Got.d c.in-Got.x c.in-Got.is in f1
+pub import-import_file-requires : goal.import-import_file-requires
+import-import_file-requires t c =
+    let f1 = fit_then (c.in_ok-d.ensures.does 0 []) c.requires.fit import_paid c.in_ok-d.d c.in_ok-d.x refl in
+    let g1 = grown_then (c.in_ok-d.ensures.does 0 []) c.requires.fit import_paid c.in_ok-d.d c.in_ok-d.x refl in f1
 
-pub import-returns-in_default-g : goal.import-returns-in_default-g
-import-returns-in_default-g t c =
-    import_name_out (c.import_head-f.ensures.does _ _) c.in-Got.d c.in-Got.x c.in-Got.is (c.import_file-g.ensures.does _ _) c.in_default-g.not-Got
+pub import-returns-in_err-e : goal.import-returns-in_err-e
+import-returns-in_err-e t c =
+    let p = err_from_is_err_and c.from_residual-in_err-e.result c.from_residual-in_err-e.ensures.1 in
+    rw (p.1, p.2) (import_name_out (c.in_ok-d.ensures.does _ _) c.in_ok-d.d c.in_ok-d.x refl (c.in_err-e.ensures.does _ _) refl)
 
 pub import-overflow_sub-high : goal.import-overflow_sub-high
 import-overflow_sub-high t c =
-    let f1 = fit_then (c.import_head-f.ensures.does 0 []) c.requires.fit import_paid c.in-Got.d c.in-Got.x c.in-Got.is in
-    let g1 = grown_then (c.import_head-f.ensures.does 0 []) c.requires.fit import_paid c.in-Got.d c.in-Got.x c.in-Got.is in let f2 = fit_then
-    (c.import_file-g.ensures.does 0 []) f1 quoted_paid c.in-Got-g.e c.in-Got-g.y c.in-Got-g.is in let g2 = grown_then
-    (c.import_file-g.ensures.does 0 []) f1 quoted_paid c.in-Got-g.e c.in-Got-g.y c.in-Got-g.is in let m2 = moved_then
-    (c.import_file-g.ensures.does 0 []) f1 quoted_moves c.in-Got-g.e c.in-Got-g.y c.in-Got-g.is in omega (arith, m2)
+    let f1 = fit_then (c.in_ok-d.ensures.does 0 []) c.requires.fit import_paid c.in_ok-d.d c.in_ok-d.x refl in
+    let g1 = grown_then (c.in_ok-d.ensures.does 0 []) c.requires.fit import_paid c.in_ok-d.d c.in_ok-d.x refl in let f2 = fit_then
+    (c.in_ok-e.ensures.does 0 []) f1 quoted_paid c.in_ok-e.e c.in_ok-e.y refl in let g2 = grown_then
+    (c.in_ok-e.ensures.does 0 []) f1 quoted_paid c.in_ok-e.e c.in_ok-e.y refl in let m2 = moved_then
+    (c.in_ok-e.ensures.does 0 []) f1 quoted_moves c.in_ok-e.e c.in_ok-e.y refl in omega (arith, m2)
 
-pub import-maybe-h-requires : goal.import-maybe-h-requires
-import-maybe-h-requires t c =
-    let f1 = fit_then (c.import_head-f.ensures.does 0 []) c.requires.fit import_paid c.in-Got.d c.in-Got.x c.in-Got.is in
-    let g1 = grown_then (c.import_head-f.ensures.does 0 []) c.requires.fit import_paid c.in-Got.d c.in-Got.x c.in-Got.is in let f2 = fit_then
-    (c.import_file-g.ensures.does 0 []) f1 quoted_paid c.in-Got-g.e c.in-Got-g.y c.in-Got-g.is in let g2 = grown_then
-    (c.import_file-g.ensures.does 0 []) f1 quoted_paid c.in-Got-g.e c.in-Got-g.y c.in-Got-g.is in let m2 = moved_then
-    (c.import_file-g.ensures.does 0 []) f1 quoted_moves c.in-Got-g.e c.in-Got-g.y c.in-Got-g.is in (omega arith, f2)
+pub import-maybe-requires : goal.import-maybe-requires
+import-maybe-requires t c =
+    let f1 = fit_then (c.in_ok-d.ensures.does 0 []) c.requires.fit import_paid c.in_ok-d.d c.in_ok-d.x refl in
+    let g1 = grown_then (c.in_ok-d.ensures.does 0 []) c.requires.fit import_paid c.in_ok-d.d c.in_ok-d.x refl in let f2 = fit_then
+    (c.in_ok-e.ensures.does 0 []) f1 quoted_paid c.in_ok-e.e c.in_ok-e.y refl in let g2 = grown_then
+    (c.in_ok-e.ensures.does 0 []) f1 quoted_paid c.in_ok-e.e c.in_ok-e.y refl in let m2 = moved_then
+    (c.in_ok-e.ensures.does 0 []) f1 quoted_moves c.in_ok-e.e c.in_ok-e.y refl in (omega arith, f2)
 
-pub import-returns-in_default-h : goal.import-returns-in_default-h
-import-returns-in_default-h t c =
-    import_block_out (c.import_head-f.ensures.does _ _) c.in-Got.d c.in-Got.x c.in-Got.is (c.import_file-g.ensures.does _ _) c.in-Got-g.e c.in-Got-g.y
-    c.in-Got-g.is c.maybe-h.ensures c.in_default-h.not-Got
+pub import-returns-in_err-j : goal.import-returns-in_err-j
+import-returns-in_err-j t c =
+    let p = err_from_is_err_and c.from_residual-in_err-j.result c.from_residual-in_err-j.ensures.1 in
+    rw (p.1, p.2) (import_block_out (c.in_ok-d.ensures.does _ _) c.in_ok-d.d c.in_ok-d.x refl (c.in_ok-e.ensures.does _ _) c.in_ok-e.e c.in_ok-e.y
+    refl c.in_err-j.ensures refl)
 
 pub import-import-requires-clause-spans : goal.import-import-requires-clause-spans
 import-import-requires-clause-spans t c =
-    let f1 = fit_then (c.import_head-f.ensures.does 0 []) c.requires.fit import_paid c.in-Got.d c.in-Got.x c.in-Got.is in
-    let g1 = grown_then (c.import_head-f.ensures.does 0 []) c.requires.fit import_paid c.in-Got.d c.in-Got.x c.in-Got.is in let f2 = fit_then
-    (c.import_file-g.ensures.does 0 []) f1 quoted_paid c.in-Got-g.e c.in-Got-g.y c.in-Got-g.is in let g2 = grown_then
-    (c.import_file-g.ensures.does 0 []) f1 quoted_paid c.in-Got-g.e c.in-Got-g.y c.in-Got-g.is in let m2 = moved_then
-    (c.import_file-g.ensures.does 0 []) f1 quoted_moves c.in-Got-g.e c.in-Got-g.y c.in-Got-g.is in let f3 = fit_then c.maybe-h.ensures f2 maybe_paid
-    c.in-Got-h.j c.in-Got-h.z c.in-Got-h.is in let g3 = grown_then c.maybe-h.ensures f2 maybe_paid c.in-Got-h.j c.in-Got-h.z c.in-Got-h.is in spans
+    let f1 = fit_then (c.in_ok-d.ensures.does 0 []) c.requires.fit import_paid c.in_ok-d.d c.in_ok-d.x refl in
+    let g1 = grown_then (c.in_ok-d.ensures.does 0 []) c.requires.fit import_paid c.in_ok-d.d c.in_ok-d.x refl in let f2 = fit_then
+    (c.in_ok-e.ensures.does 0 []) f1 quoted_paid c.in_ok-e.e c.in_ok-e.y refl in let g2 = grown_then
+    (c.in_ok-e.ensures.does 0 []) f1 quoted_paid c.in_ok-e.e c.in_ok-e.y refl in let m2 = moved_then
+    (c.in_ok-e.ensures.does 0 []) f1 quoted_moves c.in_ok-e.e c.in_ok-e.y refl in let f3 = fit_then c.in_ok-j.ensures f2 maybe_paid
+    c.in_ok-j.j c.in_ok-j.z refl in let g3 = grown_then c.in_ok-j.ensures f2 maybe_paid c.in_ok-j.j c.in_ok-j.z refl in spans
     c.requires.skips f3 (omega (arith, g1, g2, g3))
 
 pub import-import-requires-clause-low_bound : goal.import-import-requires-clause-low_bound
 import-import-requires-clause-low_bound t c =
-    let f1 = fit_then (c.import_head-f.ensures.does 0 []) c.requires.fit import_paid c.in-Got.d c.in-Got.x c.in-Got.is in
-    let g1 = grown_then (c.import_head-f.ensures.does 0 []) c.requires.fit import_paid c.in-Got.d c.in-Got.x c.in-Got.is in let f2 = fit_then
-    (c.import_file-g.ensures.does 0 []) f1 quoted_paid c.in-Got-g.e c.in-Got-g.y c.in-Got-g.is in let g2 = grown_then
-    (c.import_file-g.ensures.does 0 []) f1 quoted_paid c.in-Got-g.e c.in-Got-g.y c.in-Got-g.is in let m2 = moved_then
-    (c.import_file-g.ensures.does 0 []) f1 quoted_moves c.in-Got-g.e c.in-Got-g.y c.in-Got-g.is in let f3 = fit_then c.maybe-h.ensures f2 maybe_paid
-    c.in-Got-h.j c.in-Got-h.z c.in-Got-h.is in let g3 = grown_then c.maybe-h.ensures f2 maybe_paid c.in-Got-h.j c.in-Got-h.z c.in-Got-h.is in
+    let f1 = fit_then (c.in_ok-d.ensures.does 0 []) c.requires.fit import_paid c.in_ok-d.d c.in_ok-d.x refl in
+    let g1 = grown_then (c.in_ok-d.ensures.does 0 []) c.requires.fit import_paid c.in_ok-d.d c.in_ok-d.x refl in let f2 = fit_then
+    (c.in_ok-e.ensures.does 0 []) f1 quoted_paid c.in_ok-e.e c.in_ok-e.y refl in let g2 = grown_then
+    (c.in_ok-e.ensures.does 0 []) f1 quoted_paid c.in_ok-e.e c.in_ok-e.y refl in let m2 = moved_then
+    (c.in_ok-e.ensures.does 0 []) f1 quoted_moves c.in_ok-e.e c.in_ok-e.y refl in let f3 = fit_then c.in_ok-j.ensures f2 maybe_paid
+    c.in_ok-j.j c.in_ok-j.z refl in let g3 = grown_then c.in_ok-j.ensures f2 maybe_paid c.in_ok-j.j c.in_ok-j.z refl in
     omega (arith, f3.small, c.trivia-quote.ensures.within, f2.within, f3.within, f3.requests)
 
 pub import-returns : goal.import-returns
 import-returns t c =
-    let f1 = fit_then (c.import_head-f.ensures.does 0 []) c.requires.fit import_paid c.in-Got.d c.in-Got.x c.in-Got.is in
-    let g1 = grown_then (c.import_head-f.ensures.does 0 []) c.requires.fit import_paid c.in-Got.d c.in-Got.x c.in-Got.is in let f2 = fit_then
-    (c.import_file-g.ensures.does 0 []) f1 quoted_paid c.in-Got-g.e c.in-Got-g.y c.in-Got-g.is in let g2 = grown_then
-    (c.import_file-g.ensures.does 0 []) f1 quoted_paid c.in-Got-g.e c.in-Got-g.y c.in-Got-g.is in let m2 = moved_then
-    (c.import_file-g.ensures.does 0 []) f1 quoted_moves c.in-Got-g.e c.in-Got-g.y c.in-Got-g.is in let f3 = fit_then c.maybe-h.ensures f2 maybe_paid
-    c.in-Got-h.j c.in-Got-h.z c.in-Got-h.is in let g3 = grown_then c.maybe-h.ensures f2 maybe_paid c.in-Got-h.j c.in-Got-h.z c.in-Got-h.is in
-    import_all (c.import_head-f.ensures.does _ _) c.in-Got.d c.in-Got.x c.in-Got.is (c.import_file-g.ensures.does _ _) c.in-Got-g.e c.in-Got-g.y
-    c.in-Got-g.is c.maybe-h.ensures c.requires.skips c.trivia-quote.ensures f1.within c.in-Got-h.j c.in-Got-h.z c.in-Got-h.is
+    let f1 = fit_then (c.in_ok-d.ensures.does 0 []) c.requires.fit import_paid c.in_ok-d.d c.in_ok-d.x refl in
+    let g1 = grown_then (c.in_ok-d.ensures.does 0 []) c.requires.fit import_paid c.in_ok-d.d c.in_ok-d.x refl in let f2 = fit_then
+    (c.in_ok-e.ensures.does 0 []) f1 quoted_paid c.in_ok-e.e c.in_ok-e.y refl in let g2 = grown_then
+    (c.in_ok-e.ensures.does 0 []) f1 quoted_paid c.in_ok-e.e c.in_ok-e.y refl in let m2 = moved_then
+    (c.in_ok-e.ensures.does 0 []) f1 quoted_moves c.in_ok-e.e c.in_ok-e.y refl in let f3 = fit_then c.in_ok-j.ensures f2 maybe_paid
+    c.in_ok-j.j c.in_ok-j.z refl in let g3 = grown_then c.in_ok-j.ensures f2 maybe_paid c.in_ok-j.j c.in_ok-j.z refl in
+    import_all (c.in_ok-d.ensures.does _ _) c.in_ok-d.d c.in_ok-d.x refl (c.in_ok-e.ensures.does _ _) c.in_ok-e.e c.in_ok-e.y
+    refl c.in_ok-j.ensures c.requires.skips c.trivia-quote.ensures f1.within c.in_ok-j.j c.in_ok-j.z refl
     (omega (arith, g1, g2, g3)) _ refl c.import.ensures
 
 pub item-returns-in_default : goal.item-returns-in_default
-item-returns-in_default t c = item_first c.requires.le_at c.requires.fit c.statement-r.ensures c.in_default.not-Miss
+item-returns-in_default t c = item_first c.requires.le_at c.requires.fit c.in_default.ensures (λ m e. grind arith)
+
+pub item-returns-in_default-2 : goal.item-returns-in_default-2
+item-returns-in_default-2 t c = item_first c.requires.le_at c.requires.fit c.statement.ensures (λ m e. grind arith)
 
 pub item-error_in_block-requires : goal.item-error_in_block-requires
-item-error_in_block-requires t c = fit_next c.statement-r.ensures c.requires.fit statement_sober c.in-Miss.x c.in-Miss.is
+item-error_in_block-requires t c = fit_next c.statement.ensures c.requires.fit statement_sober c.in-Err-Miss.x (c.in-Err-Miss.is ∙ ap Err c.in-Err-Miss.field-0-is)
 
 pub item-returns : goal.item-returns
-item-returns t c = item_error c.requires.le_at c.requires.fit c.statement-r.ensures c.in-Miss.x c.in-Miss.is c.error_in_block.ensures
+item-returns t c = item_error c.requires.le_at c.requires.fit c.statement.ensures c.in-Err-Miss.x (c.in-Err-Miss.is ∙ ap Err c.in-Err-Miss.field-0-is) c.error_in_block.ensures
 
 pub items-loop-d-init : goal.items-loop-d-init
 items-loop-d-init t c = (walking_none block_item _ _ c.requires.fit, c.requires.le_at)
 
 pub items-loop-d-smaller : goal.items-loop-d-smaller
 items-loop-d-smaller t c =
-    let w = walking_less c.loop-d.invariant.0 c.item-f.ensures item_paid.0 item_moves c.in-Got.d c.in-Got.x c.in-Got.is in
+    let w = walking_less c.loop-d.invariant.0 c.item.ensures item_paid.0 item_moves c.in-Ok.d c.in-Ok.x c.in-Ok.is in
     omega (arith, w.0, w.1)
 
 pub items-loop-d-preserved : goal.items-loop-d-preserved
 items-loop-d-preserved t c =
-    let w = walking_less c.loop-d.invariant.0 c.item-f.ensures item_paid.0 item_moves c.in-Got.d c.in-Got.x c.in-Got.is in (
-      walking_more c.loop-d.invariant.0 c.item-f.ensures item_paid.0 item_paid.1 item_moves c.in-Got.d c.in-Got.x c.in-Got.is c.item-f.auto.rows c.item-f.auto.errors c.item-f.auto.requests,
+    let w = walking_less c.loop-d.invariant.0 c.item.ensures item_paid.0 item_moves c.in-Ok.d c.in-Ok.x c.in-Ok.is in (
+      walking_more c.loop-d.invariant.0 c.item.ensures item_paid.0 item_paid.1 item_moves c.in-Ok.d c.in-Ok.x c.in-Ok.is c.item.auto.rows c.item.auto.errors c.item.auto.requests,
       omega (arith, w.0),
     )
 
-pub items-returns-in-Miss : goal.items-returns-in-Miss
-items-returns-in-Miss t c = walking_end c.loop-d.invariant.0 c.item-f.ensures c.args.c.met c.in-Miss.x c.in-Miss.is
+pub items-returns-in-Err-Miss : goal.items-returns-in-Err-Miss
+items-returns-in-Err-Miss t c = walking_end c.loop-d.invariant.0 c.item.ensures c.args.c.met c.in-Err-Miss.x (c.in-Err-Miss.is ∙ ap Err c.in-Err-Miss.field-0-is)
 
-pub items-returns-in-Deep : goal.items-returns-in-Deep
-items-returns-in-Deep t c = walking_deep c.loop-d.invariant.0 c.item-f.ensures c.args.c.met c.in-Deep.is
+pub items-returns-in-Err-Deep : goal.items-returns-in-Err-Deep
+items-returns-in-Err-Deep t c = walking_deep c.loop-d.invariant.0 c.item.ensures c.args.c.met (c.in-Err-Deep.is ∙ ap Err c.in-Err-Deep.field-0-is)
 
 pub label-rest-requires : goal.label-rest-requires
 label-rest-requires t c =
-    (omega arith, (c.requires.skips, (headed c.requires.fit label_head label_paid.0 label_paid.1 (c.label_head-h.ensures.does 0 []), omega arith)))
+    (omega arith, (c.requires.skips, headed c.requires.fit label_head label_paid.0 label_paid.1 (c.label_head-h.ensures.does 0 [])))
 
 pub label-returns : goal.label-returns
 label-returns t c = label_ends c.requires.skips (c.label_head-h.ensures.does _ _) c.rest.ensures
 
 pub macro_of-rest-requires : goal.macro_of-rest-requires
 macro_of-rest-requires t c =
-    (omega arith, (c.requires.skips, (headed c.requires.fit macro_head macro_paid.0 macro_paid.1 (c.macro_head-h.ensures.does 0 []), omega arith)))
+    (omega arith, (c.requires.skips, headed c.requires.fit macro_head macro_paid.0 macro_paid.1 (c.macro_head-h.ensures.does 0 [])))
 
 pub macro_of-returns : goal.macro_of-returns
 macro_of-returns t c = macro_ends c.requires.skips (c.macro_head-h.ensures.does _ _) c.rest.ensures
 
 pub maybe-returns-in_default : goal.maybe-returns-in_default
-maybe-returns-in_default t c = does_opt c.block-f.ensures c.in_default.not-Miss
+maybe-returns-in_default t c = does_opt c.in_default.ensures (λ m e. grind arith)
+
+pub maybe-returns-in_default-2 : goal.maybe-returns-in_default-2
+maybe-returns-in_default-2 t c = does_opt c.block.ensures (λ m e. grind arith)
 
 pub maybe-returns : goal.maybe-returns
-maybe-returns t c = does_none c.block-f.ensures c.in-Miss.x c.in-Miss.is
+maybe-returns t c = does_none c.block.ensures c.in-Err-Miss.x (c.in-Err-Miss.is ∙ ap Err c.in-Err-Miss.field-0-is)
 
-pub other-returns-in_default : goal.other-returns-in_default
-other-returns-in_default t c = does_out (c.else_head-f.ensures.does _ _) c.in_default.not-Got
+pub other-returns-in_err-d : goal.other-returns-in_err-d
+other-returns-in_err-d t c =
+    let p = err_from_is_err_and c.from_residual.result c.from_residual.ensures.1 in
+    rw (p.1, p.2) (does_out (c.in_err-d.ensures.does _ _) refl)
 
 pub other-block-requires : goal.other-block-requires
-other-block-requires t c = (omega arith, fit_then (c.else_head-f.ensures.does 0 []) c.requires else_paid c.in-Got.d c.in-Got.x c.in-Got.is)
+other-block-requires t c = (omega arith, fit_then (c.in_ok-d.ensures.does 0 []) c.requires else_paid c.in_ok-d.d c.in_ok-d.x refl)
 
 pub other-returns : goal.other-returns
-other-returns t c = does_then (c.else_head-f.ensures.does _ _) c.in-Got.d c.in-Got.x c.in-Got.is c.block.ensures
+other-returns t c = does_then (c.in_ok-d.ensures.does _ _) c.in_ok-d.d c.in_ok-d.x refl c.block.ensures
 
-pub rest-returns-in_default : goal.rest-returns-in_default
-rest-returns-in_default t c = ends_out c.in_default.not-Got
+pub rest-returns-in_err-d : goal.rest-returns-in_err-d
+rest-returns-in_err-d t c =
+    let p = err_from_is_err_and c.from_residual.result c.from_residual.ensures.1 in
+    rw (p.1, p.2, c.in_err-d.was) (ends_out refl)
 
-pub rest-body-f-requires : goal.rest-body-f-requires
-rest-body-f-requires t c =
-    let df = c.requires.headed.0.fit c.in-Got.d c.in-Got.x c.in-Got.is in
-    let dg = c.requires.headed.0.grown c.in-Got.d c.in-Got.x c.in-Got.is in (omega arith, df)
+pub rest-body-requires : goal.rest-body-requires
+rest-body-requires t c = (omega arith, c.requires.headed.fit c.in_ok-d.d c.in_ok-d.x c.in_ok-d.was)
 
-pub rest-returns-in_default-f : goal.rest-returns-in_default-f
-rest-returns-in_default-f t c = ends_body c.in-Got.d c.in-Got.x c.in-Got.is c.body-f.ensures c.in_default-f.not-Got
+pub rest-returns-in_err-e : goal.rest-returns-in_err-e
+rest-returns-in_err-e t c =
+    let p = err_from_is_err_and c.from_residual-in_err-e.result c.from_residual-in_err-e.ensures.1 in
+    rw (p.1, p.2) (ends_body c.in_ok-d.d c.in_ok-d.x c.in_ok-d.was c.in_err-e.ensures refl)
 
-pub rest-close-requires-clause-spans : goal.rest-close-requires-clause-spans
-rest-close-requires-clause-spans t c =
-    let df = c.requires.headed.0.fit c.in-Got.d c.in-Got.x c.in-Got.is in
-    let dg = c.requires.headed.0.grown c.in-Got.d c.in-Got.x c.in-Got.is in let ef = fit_then c.body-f.ensures df (body_paid c.args.b) c.in-Got-f.e
-    c.in-Got-f.y c.in-Got-f.is in let eg = grown_then c.body-f.ensures df (body_paid c.args.b) c.in-Got-f.e c.in-Got-f.y c.in-Got-f.is in spans
-    c.requires.skips ef (omega (arith, dg, eg))
+pub rest-close-requires : goal.rest-close-requires
+rest-close-requires t c =
+    let df = c.requires.headed.fit c.in_ok-d.d c.in_ok-d.x c.in_ok-d.was in
+    let dg = c.requires.headed.grown c.in_ok-d.d c.in_ok-d.x c.in_ok-d.was in
+    let ef = fit_then c.in_ok-e.ensures df (body_paid c.args.b) c.in_ok-e.e c.in_ok-e.y refl in
+    let eg = grown_then c.in_ok-e.ensures df (body_paid c.args.b) c.in_ok-e.e c.in_ok-e.y refl in
+    spans c.requires.skips ef (omega (arith, dg, eg))
 
 pub rest-returns : goal.rest-returns
 rest-returns t c =
-    let df = c.requires.headed.0.fit c.in-Got.d c.in-Got.x c.in-Got.is in
-    let dg = c.requires.headed.0.grown c.in-Got.d c.in-Got.x c.in-Got.is in let ef = fit_then c.body-f.ensures df (body_paid c.args.b) c.in-Got-f.e
-    c.in-Got-f.y c.in-Got-f.is in let eg = grown_then c.body-f.ensures df (body_paid c.args.b) c.in-Got-f.e c.in-Got-f.y c.in-Got-f.is in ends_got
-    c.in-Got.d c.in-Got.x c.in-Got.is c.body-f.ensures c.in-Got-f.e c.in-Got-f.y c.in-Got-f.is (omega (arith, dg, eg)) c.close.ensures
+    let df = c.requires.headed.fit c.in_ok-d.d c.in_ok-d.x c.in_ok-d.was in
+    let dg = c.requires.headed.grown c.in_ok-d.d c.in_ok-d.x c.in_ok-d.was in
+    let ef = fit_then c.in_ok-e.ensures df (body_paid c.args.b) c.in_ok-e.e c.in_ok-e.y refl in
+    let eg = grown_then c.in_ok-e.ensures df (body_paid c.args.b) c.in_ok-e.e c.in_ok-e.y refl in
+    ends_got c.in_ok-d.d c.in_ok-d.x c.in_ok-d.was c.in_ok-e.ensures c.in_ok-e.e c.in_ok-e.y refl (omega (arith, dg, eg)) c.close.ensures
 
 pub second-returns-in_default : goal.second-returns-in_default
-second-returns-in_default t c = second_is (does_first c.macro_of-r.ensures c.in_default.not-Miss)
+second-returns-in_default t c = second_is (does_first c.in_default.ensures (λ m e. grind arith))
 
-pub second-calls-r-requires-clause-fit : goal.second-calls-r-requires-clause-fit
-second-calls-r-requires-clause-fit t c = fit_next c.macro_of-r.ensures c.requires.fit second_sober.0 c.in-Miss.st c.in-Miss.is
+pub second-returns-in_default-2 : goal.second-returns-in_default-2
+second-returns-in_default-2 t c = second_is (does_first c.macro_of.ensures (λ m e. grind arith))
 
-pub second-returns-in_default-r : goal.second-returns-in_default-r
-second-returns-in_default-r t c =
-    second_is (does_next c.macro_of-r.ensures c.in-Miss.st c.in-Miss.is (does_first (c.calls-r.ensures.does _) c.in_default-r.not-Miss))
+pub second-calls-requires-clause-fit : goal.second-calls-requires-clause-fit
+second-calls-requires-clause-fit t c = fit_next c.macro_of.ensures c.requires.fit second_sober.0 c.in-Err-Miss.st (c.in-Err-Miss.is ∙ ap Err c.in-Err-Miss.field-0-is)
 
-pub second-directive-r-requires : goal.second-directive-r-requires
-second-directive-r-requires t c =
-    let h1 = fit_next c.macro_of-r.ensures c.requires.fit second_sober.0 c.in-Miss.st c.in-Miss.is in
-    let h2 = fit_next (c.calls-r.ensures.does []) h1 second_sober.1 c.in-Miss-r.st c.in-Miss-r.is in
-    (omega arith, (h2, (c.requires.skips, omega arith, omega arith)))
+pub second-returns-in_default-calls : goal.second-returns-in_default-calls
+second-returns-in_default-calls t c = second_is (does_next c.macro_of.ensures c.in-Err-Miss.st (c.in-Err-Miss.is ∙ ap Err c.in-Err-Miss.field-0-is) (does_first (c.in_default-calls.ensures.does _) (λ m e. grind arith)))
 
-pub second-returns-in_default-r-2 : goal.second-returns-in_default-r-2
-second-returns-in_default-r-2 t c =
-    second_is
-    (does_next c.macro_of-r.ensures c.in-Miss.st c.in-Miss.is
-    (does_next (c.calls-r.ensures.does _) c.in-Miss-r.st c.in-Miss-r.is (does_first (segment_is c.directive-r.ensures) c.in_default-r-2.not-Miss)))
+pub second-returns-in_default-calls-2 : goal.second-returns-in_default-calls-2
+second-returns-in_default-calls-2 t c = second_is (does_next c.macro_of.ensures c.in-Err-Miss.st (c.in-Err-Miss.is ∙ ap Err c.in-Err-Miss.field-0-is) (does_first (c.calls.ensures.does _) (λ m e. grind arith)))
+
+pub second-directive-requires : goal.second-directive-requires
+second-directive-requires t c =
+    let h1 = fit_next c.macro_of.ensures c.requires.fit second_sober.0 c.in-Err-Miss.st (c.in-Err-Miss.is ∙ ap Err c.in-Err-Miss.field-0-is) in
+    let h2 = fit_next (c.calls.ensures.does []) h1 second_sober.1 c.in-Err-Miss-calls.st (c.in-Err-Miss-calls.is ∙ ap Err c.in-Err-Miss-calls.field-0-is) in
+    (omega arith, (h2, (c.requires.skips, omega arith)))
+
+pub second-returns-in_default-directive : goal.second-returns-in_default-directive
+second-returns-in_default-directive t c = second_is
+    (does_next c.macro_of.ensures c.in-Err-Miss.st (c.in-Err-Miss.is ∙ ap Err c.in-Err-Miss.field-0-is)
+    (does_next (c.calls.ensures.does _) c.in-Err-Miss-calls.st (c.in-Err-Miss-calls.is ∙ ap Err c.in-Err-Miss-calls.field-0-is) (does_first (segment_is c.in_default-directive.ensures) (λ m e. grind arith))))
+
+pub second-returns-in_default-directive-2 : goal.second-returns-in_default-directive-2
+second-returns-in_default-directive-2 t c = second_is
+    (does_next c.macro_of.ensures c.in-Err-Miss.st (c.in-Err-Miss.is ∙ ap Err c.in-Err-Miss.field-0-is)
+    (does_next (c.calls.ensures.does _) c.in-Err-Miss-calls.st (c.in-Err-Miss-calls.is ∙ ap Err c.in-Err-Miss-calls.field-0-is) (does_first (segment_is c.directive.ensures) (λ m e. grind arith))))
 
 pub second-third-requires : goal.second-third-requires
 second-third-requires t c =
-    let h1 = fit_next c.macro_of-r.ensures c.requires.fit second_sober.0 c.in-Miss.st c.in-Miss.is in
-    let h2 = fit_next (c.calls-r.ensures.does []) h1 second_sober.1 c.in-Miss-r.st c.in-Miss-r.is in let h3 = fit_next
-    (segment_is c.directive-r.ensures) h2 second_sober.2 c.in-Miss-r-2.st c.in-Miss-r-2.is in (omega arith, (h3, c.requires.skips))
+    let h1 = fit_next c.macro_of.ensures c.requires.fit second_sober.0 c.in-Err-Miss.st (c.in-Err-Miss.is ∙ ap Err c.in-Err-Miss.field-0-is) in
+    let h2 = fit_next (c.calls.ensures.does []) h1 second_sober.1 c.in-Err-Miss-calls.st (c.in-Err-Miss-calls.is ∙ ap Err c.in-Err-Miss-calls.field-0-is) in let h3 = fit_next
+    (segment_is c.directive.ensures) h2 second_sober.2 c.in-Err-Miss-directive.st (c.in-Err-Miss-directive.is ∙ ap Err c.in-Err-Miss-directive.field-0-is) in (omega arith, (h3, c.requires.skips))
 
 pub second-returns : goal.second-returns
 second-returns t c =
     second_is
-    (does_next c.macro_of-r.ensures c.in-Miss.st c.in-Miss.is
-    (does_next (c.calls-r.ensures.does _) c.in-Miss-r.st c.in-Miss-r.is
-    (does_next (segment_is c.directive-r.ensures) c.in-Miss-r-2.st c.in-Miss-r-2.is c.third.ensures)))
+    (does_next c.macro_of.ensures c.in-Err-Miss.st (c.in-Err-Miss.is ∙ ap Err c.in-Err-Miss.field-0-is)
+    (does_next (c.calls.ensures.does _) c.in-Err-Miss-calls.st (c.in-Err-Miss-calls.is ∙ ap Err c.in-Err-Miss-calls.field-0-is)
+    (does_next (segment_is c.directive.ensures) c.in-Err-Miss-directive.st (c.in-Err-Miss-directive.is ∙ ap Err c.in-Err-Miss-directive.field-0-is) c.third.ensures)))
 
 pub statement-returns-in_default : goal.statement-returns-in_default
-statement-returns-in_default t c = statement_is (does_first c.braces-r.ensures c.in_default.not-Miss)
+statement-returns-in_default t c = statement_is (does_first c.in_default.ensures (λ m e. grind arith))
 
-pub statement-label-r-requires : goal.statement-label-r-requires
-statement-label-r-requires t c =
-    let h1 = fit_next c.braces-r.ensures c.requires first_sober.0 c.in-Miss.st c.in-Miss.is in
+pub statement-returns-in_default-2 : goal.statement-returns-in_default-2
+statement-returns-in_default-2 t c = statement_is (does_first c.braces.ensures (λ m e. grind arith))
+
+pub statement-label-requires : goal.statement-label-requires
+statement-label-requires t c =
+    let h1 = fit_next c.braces.ensures c.requires first_sober.0 c.in-Err-Miss.st (c.in-Err-Miss.is ∙ ap Err c.in-Err-Miss.field-0-is) in
     (omega arith, (h1, c.multiline_trivia-k.ensures))
 
-pub statement-returns-in_default-r : goal.statement-returns-in_default-r
-statement-returns-in_default-r t c =
-    statement_is (does_next c.braces-r.ensures c.in-Miss.st c.in-Miss.is (does_first c.label-r.ensures c.in_default-r.not-Miss))
+pub statement-returns-in_default-label : goal.statement-returns-in_default-label
+statement-returns-in_default-label t c = statement_is (does_next c.braces.ensures c.in-Err-Miss.st (c.in-Err-Miss.is ∙ ap Err c.in-Err-Miss.field-0-is) (does_first c.in_default-label.ensures (λ m e. grind arith)))
 
-pub statement-instructions-r-requires-clause-fit : goal.statement-instructions-r-requires-clause-fit
-statement-instructions-r-requires-clause-fit t c =
-    let h1 = fit_next c.braces-r.ensures c.requires first_sober.0 c.in-Miss.st c.in-Miss.is in
-    fit_next c.label-r.ensures h1 first_sober.1 c.in-Miss-r.st c.in-Miss-r.is
+pub statement-returns-in_default-label-2 : goal.statement-returns-in_default-label-2
+statement-returns-in_default-label-2 t c = statement_is (does_next c.braces.ensures c.in-Err-Miss.st (c.in-Err-Miss.is ∙ ap Err c.in-Err-Miss.field-0-is) (does_first c.label.ensures (λ m e. grind arith)))
 
-pub statement-returns-in_default-r-2 : goal.statement-returns-in_default-r-2
-statement-returns-in_default-r-2 t c =
-    statement_is
-    (does_next c.braces-r.ensures c.in-Miss.st c.in-Miss.is
-    (does_next c.label-r.ensures c.in-Miss-r.st c.in-Miss-r.is (does_first (c.instructions-r.ensures.does _) c.in_default-r-2.not-Miss)))
+pub statement-instructions-requires-clause-fit : goal.statement-instructions-requires-clause-fit
+statement-instructions-requires-clause-fit t c =
+    let h1 = fit_next c.braces.ensures c.requires first_sober.0 c.in-Err-Miss.st (c.in-Err-Miss.is ∙ ap Err c.in-Err-Miss.field-0-is) in
+    fit_next c.label.ensures h1 first_sober.1 c.in-Err-Miss-label.st (c.in-Err-Miss-label.is ∙ ap Err c.in-Err-Miss-label.field-0-is)
+
+pub statement-returns-in_default-instructions : goal.statement-returns-in_default-instructions
+statement-returns-in_default-instructions t c = statement_is
+    (does_next c.braces.ensures c.in-Err-Miss.st (c.in-Err-Miss.is ∙ ap Err c.in-Err-Miss.field-0-is)
+    (does_next c.label.ensures c.in-Err-Miss-label.st (c.in-Err-Miss-label.is ∙ ap Err c.in-Err-Miss-label.field-0-is) (does_first (c.in_default-instructions.ensures.does _) (λ m e. grind arith))))
+
+pub statement-returns-in_default-instructions-2 : goal.statement-returns-in_default-instructions-2
+statement-returns-in_default-instructions-2 t c = statement_is
+    (does_next c.braces.ensures c.in-Err-Miss.st (c.in-Err-Miss.is ∙ ap Err c.in-Err-Miss.field-0-is)
+    (does_next c.label.ensures c.in-Err-Miss-label.st (c.in-Err-Miss-label.is ∙ ap Err c.in-Err-Miss-label.field-0-is) (does_first (c.instructions.ensures.does _) (λ m e. grind arith))))
 
 pub statement-second-requires : goal.statement-second-requires
 statement-second-requires t c =
-    let h1 = fit_next c.braces-r.ensures c.requires first_sober.0 c.in-Miss.st c.in-Miss.is in
-    let h2 = fit_next c.label-r.ensures h1 first_sober.1 c.in-Miss-r.st c.in-Miss-r.is in let h3 = fit_next (c.instructions-r.ensures.does []) h2
-    first_sober.2 c.in-Miss-r-2.st c.in-Miss-r-2.is in (omega arith, (h3, c.multiline_trivia-k.ensures))
+    let h1 = fit_next c.braces.ensures c.requires first_sober.0 c.in-Err-Miss.st (c.in-Err-Miss.is ∙ ap Err c.in-Err-Miss.field-0-is) in
+    let h2 = fit_next c.label.ensures h1 first_sober.1 c.in-Err-Miss-label.st (c.in-Err-Miss-label.is ∙ ap Err c.in-Err-Miss-label.field-0-is) in let h3 = fit_next (c.instructions.ensures.does []) h2
+    first_sober.2 c.in-Err-Miss-instructions.st (c.in-Err-Miss-instructions.is ∙ ap Err c.in-Err-Miss-instructions.field-0-is) in (omega arith, (h3, c.multiline_trivia-k.ensures))
 
 pub statement-returns : goal.statement-returns
 statement-returns t c =
     statement_is
-    (does_next c.braces-r.ensures c.in-Miss.st c.in-Miss.is
-    (does_next c.label-r.ensures c.in-Miss-r.st c.in-Miss-r.is
-    (does_next (c.instructions-r.ensures.does _) c.in-Miss-r-2.st c.in-Miss-r-2.is c.second.ensures)))
+    (does_next c.braces.ensures c.in-Err-Miss.st (c.in-Err-Miss.is ∙ ap Err c.in-Err-Miss.field-0-is)
+    (does_next c.label.ensures c.in-Err-Miss-label.st (c.in-Err-Miss-label.is ∙ ap Err c.in-Err-Miss-label.field-0-is)
+    (does_next (c.instructions.ensures.does _) c.in-Err-Miss-instructions.st (c.in-Err-Miss-instructions.is ∙ ap Err c.in-Err-Miss-instructions.field-0-is) c.second.ensures)))
 
 pub third-returns-in_default : goal.third-returns-in_default
-third-returns-in_default t c = third_is (does_first (loop_is c.directive-r.ensures) c.in_default.not-Miss)
+third-returns-in_default t c = third_is (does_first (loop_is c.in_default.ensures) (λ m e. grind arith))
 
-pub third-directive-r-requires-2 : goal.third-directive-r-requires-2
-third-directive-r-requires-2 t c =
-    let h1 = fit_next (loop_is c.directive-r.ensures) c.requires.fit third_sober.0 c.in-Miss.st c.in-Miss.is in
-    (omega arith, (h1, (c.requires.skips, omega arith, omega arith)))
+pub third-returns-in_default-2 : goal.third-returns-in_default-2
+third-returns-in_default-2 t c = third_is (does_first (loop_is c.directive.ensures) (λ m e. grind arith))
 
-pub third-returns-in_default-r : goal.third-returns-in_default-r
-third-returns-in_default-r t c =
-    third_is (does_next (loop_is c.directive-r.ensures) c.in-Miss.st c.in-Miss.is (does_first (if_is c.directive-r-2.ensures) c.in_default-r.not-Miss))
+pub third-directive-requires-2 : goal.third-directive-requires-2
+third-directive-requires-2 t c =
+    let h1 = fit_next (loop_is c.directive.ensures) c.requires.fit third_sober.0 c.in-Err-Miss.st (c.in-Err-Miss.is ∙ ap Err c.in-Err-Miss.field-0-is) in
+    (omega arith, (h1, (c.requires.skips, omega arith)))
 
-pub third-align-r-requires-clause-fit : goal.third-align-r-requires-clause-fit
-third-align-r-requires-clause-fit t c =
-    let h1 = fit_next (loop_is c.directive-r.ensures) c.requires.fit third_sober.0 c.in-Miss.st c.in-Miss.is in
-    fit_next (if_is c.directive-r-2.ensures) h1 third_sober.1 c.in-Miss-r.st c.in-Miss-r.is
+pub third-returns-in_default-directive : goal.third-returns-in_default-directive
+third-returns-in_default-directive t c = third_is (does_next (loop_is c.directive.ensures) c.in-Err-Miss.st (c.in-Err-Miss.is ∙ ap Err c.in-Err-Miss.field-0-is) (does_first (if_is c.in_default-directive.ensures) (λ m e. grind arith)))
 
-pub third-returns-in_default-r-2 : goal.third-returns-in_default-r-2
-third-returns-in_default-r-2 t c =
-    third_is
-    (does_next (loop_is c.directive-r.ensures) c.in-Miss.st c.in-Miss.is
-    (does_next (if_is c.directive-r-2.ensures) c.in-Miss-r.st c.in-Miss-r.is (does_first (c.align-r.ensures.does _) c.in_default-r-2.not-Miss)))
+pub third-returns-in_default-directive-2 : goal.third-returns-in_default-directive-2
+third-returns-in_default-directive-2 t c = third_is (does_next (loop_is c.directive.ensures) c.in-Err-Miss.st (c.in-Err-Miss.is ∙ ap Err c.in-Err-Miss.field-0-is) (does_first (if_is c.directive-2.ensures) (λ m e. grind arith)))
+
+pub third-align-requires-clause-fit : goal.third-align-requires-clause-fit
+third-align-requires-clause-fit t c =
+    let h1 = fit_next (loop_is c.directive.ensures) c.requires.fit third_sober.0 c.in-Err-Miss.st (c.in-Err-Miss.is ∙ ap Err c.in-Err-Miss.field-0-is) in
+    fit_next (if_is c.directive-2.ensures) h1 third_sober.1 c.in-Err-Miss-directive.st (c.in-Err-Miss-directive.is ∙ ap Err c.in-Err-Miss-directive.field-0-is)
+
+pub third-returns-in_default-align : goal.third-returns-in_default-align
+third-returns-in_default-align t c = third_is
+    (does_next (loop_is c.directive.ensures) c.in-Err-Miss.st (c.in-Err-Miss.is ∙ ap Err c.in-Err-Miss.field-0-is)
+    (does_next (if_is c.directive-2.ensures) c.in-Err-Miss-directive.st (c.in-Err-Miss-directive.is ∙ ap Err c.in-Err-Miss-directive.field-0-is) (does_first (c.in_default-align.ensures.does _) (λ m e. grind arith))))
+
+pub third-returns-in_default-align-2 : goal.third-returns-in_default-align-2
+third-returns-in_default-align-2 t c = third_is
+    (does_next (loop_is c.directive.ensures) c.in-Err-Miss.st (c.in-Err-Miss.is ∙ ap Err c.in-Err-Miss.field-0-is)
+    (does_next (if_is c.directive-2.ensures) c.in-Err-Miss-directive.st (c.in-Err-Miss-directive.is ∙ ap Err c.in-Err-Miss-directive.field-0-is) (does_first (c.align.ensures.does _) (λ m e. grind arith))))
 
 pub third-fourth-requires : goal.third-fourth-requires
 third-fourth-requires t c =
-    let h1 = fit_next (loop_is c.directive-r.ensures) c.requires.fit third_sober.0 c.in-Miss.st c.in-Miss.is in
-    let h2 = fit_next (if_is c.directive-r-2.ensures) h1 third_sober.1 c.in-Miss-r.st c.in-Miss-r.is in let h3 = fit_next (c.align-r.ensures.does [])
-    h2 third_sober.2 c.in-Miss-r-2.st c.in-Miss-r-2.is in (omega arith, (h3, c.requires.skips))
+    let h1 = fit_next (loop_is c.directive.ensures) c.requires.fit third_sober.0 c.in-Err-Miss.st (c.in-Err-Miss.is ∙ ap Err c.in-Err-Miss.field-0-is) in
+    let h2 = fit_next (if_is c.directive-2.ensures) h1 third_sober.1 c.in-Err-Miss-directive.st (c.in-Err-Miss-directive.is ∙ ap Err c.in-Err-Miss-directive.field-0-is) in let h3 = fit_next (c.align.ensures.does [])
+    h2 third_sober.2 c.in-Err-Miss-align.st (c.in-Err-Miss-align.is ∙ ap Err c.in-Err-Miss-align.field-0-is) in (omega arith, (h3, c.requires.skips))
 
 pub third-returns : goal.third-returns
 third-returns t c =
     third_is
-    (does_next (loop_is c.directive-r.ensures) c.in-Miss.st c.in-Miss.is
-    (does_next (if_is c.directive-r-2.ensures) c.in-Miss-r.st c.in-Miss-r.is
-    (does_next (c.align-r.ensures.does _) c.in-Miss-r-2.st c.in-Miss-r-2.is c.fourth.ensures)))
+    (does_next (loop_is c.directive.ensures) c.in-Err-Miss.st (c.in-Err-Miss.is ∙ ap Err c.in-Err-Miss.field-0-is)
+    (does_next (if_is c.directive-2.ensures) c.in-Err-Miss-directive.st (c.in-Err-Miss-directive.is ∙ ap Err c.in-Err-Miss-directive.field-0-is)
+    (does_next (c.align.ensures.does _) c.in-Err-Miss-align.st (c.in-Err-Miss-align.is ∙ ap Err c.in-Err-Miss-align.field-0-is) c.fourth.ensures)))

@@ -61,9 +61,9 @@ decreases-third l = l.left * 64 + 8
 
 abbrev pub invariant-items-loop-d : goal.invariant-items-loop-d
 invariant-items-loop-d l =
-    Walking block_item l.s l.left l.initial.at l.initial.count l.initial.state (tables l.initial.rows l.initial.errors l.initial.requests) l.at
-    l.count l.state (tables l.rows l.errors l.requests)
-    × (1 ≤ l.at)
+    Walking block_item l.s l.left l.initial.next.at.0 l.initial.next.count.0 l.initial.state (tables l.initial.rows l.initial.errors l.initial.requests)
+    l.next.at.0 l.next.count.0 l.state (tables l.rows l.errors l.requests)
+    × (1 ≤ l.next.at.0)
 
 abbrev pub decreases-items-loop-d : goal.decreases-items-loop-d
-decreases-items-loop-d l = length l.s - l.at
+decreases-items-loop-d l = length l.s - l.next.at.0

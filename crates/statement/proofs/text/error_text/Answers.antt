@@ -1,24 +1,28 @@
+use Rattle.trivia.specs.Class.{bit_of}
+use mathlib.Core.Path.{refl}
+use Rattle.std.proofs.lemmas.Result.{err_from_is_err_and}
 use Rattle.statement.proofs.Lifts.{fit_lifts}
 use Rattle.statement.proofs.Parts.{text_tells, error_out, error_fit, error_got}
 use Rattle.state.proofs.Bounds.{fit_errors}
 use native.Mathlib.Omega.{arith}
 use Rattle.statement.proofs.text.error_text.Goals as goal
 
-pub lifted-r-requires : goal.lifted-r-requires
-lifted-r-requires c = fit_lifts c.requires.fit
+pub lifted-requires : goal.lifted-requires
+lifted-requires c = fit_lifts c.requires
 
-pub returns-in_default : goal.returns-in_default
-returns-in_default c =
-    error_out c.args.class c.requires.fit (text_tells c.requires.fit c.multiline_trivia-k.ensures c.lifted-r.ensures c.args.class c.run-f.ensures)
-    c.in_default.not-Got
+pub returns-in_err-d : goal.returns-in_err-d
+returns-in_err-d c =
+    let p = err_from_is_err_and c.from_residual.result c.from_residual.ensures.1 in
+    rw (p.1, p.2) (error_out (bit_of c.args.class) c.requires (text_tells c.requires c.multiline_trivia-k.ensures c.in_err-d.ensures (bit_of c.args.class) c.run-f.ensures)
+    refl)
 
 pub report-y-requires : goal.report-y-requires
 report-y-requires c =
-    let f = error_fit c.args.class c.requires.fit
-    (text_tells c.requires.fit c.multiline_trivia-k.ensures c.lifted-r.ensures c.args.class c.run-f.ensures) c.in-Got.d c.in-Got.x c.in-Got.is in
-    let e = fit_errors f in omega (arith, c.requires.fit.small, c.multiline_trivia-k.ensures.within, f.within, e)
+    let f = error_fit (bit_of c.args.class) c.requires
+    (text_tells c.requires c.multiline_trivia-k.ensures c.in_ok-d.ensures (bit_of c.args.class) c.run-f.ensures) c.in_ok-d.d c.in_ok-d.x refl in
+    let e = fit_errors f in omega (arith, c.requires.small, c.multiline_trivia-k.ensures.within, f.within, e)
 
 pub returns : goal.returns
 returns c =
-    error_got c.args.class c.requires.fit (text_tells c.requires.fit c.multiline_trivia-k.ensures c.lifted-r.ensures c.args.class c.run-f.ensures)
-    c.multiline_trivia-k.ensures c.in-Got.d c.in-Got.x c.in-Got.is c.report-y.ensures
+    error_got (bit_of c.args.class) c.requires (text_tells c.requires c.multiline_trivia-k.ensures c.in_ok-d.ensures (bit_of c.args.class) c.run-f.ensures)
+    c.multiline_trivia-k.ensures c.in_ok-d.d c.in_ok-d.x refl c.report-y.ensures
