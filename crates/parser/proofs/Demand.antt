@@ -13,10 +13,9 @@ use Rattle.reading.specs.Grammar.{Rows, Reply}
 use Rattle.reading.specs.Reading.{rows_of, state_of}
 use Rattle.reading.specs.Table.{max_text, max_level, first_high, row_words, error_words, request_words, zeros}
 use Rattle.reading.specs.Outcome.{Call, reading, outcome}
-use Rattle.parser.specs.Answers.{Meets}
+use Rattle.parser.specs.Answers.{Meets, Answer}
 use Rattle.parser.specs.Seen.{code_of, Seen, exported, answer_seen}
 use Rattle.parser.specs.Demand.{Kind, rows, errors, requests, number, width, lent, room_of, need, count, table, Answered, Refused, Readable, Enough, Before, Lacks, OneCall, SameText, Larger, Unchanged, size, records, Whole, Repeats, TwoCalls, Demand3}
-use Rattle.parser.specs.declared.Answer.{Answer}
 use Rattle.parser.proofs.Room.{words, words_are, Given, none_given, none_fits, fits_none, answered_none, code_refused, refused_lacks, lacks_refused}
 
 -- One call -------------------------------------------------------------------

@@ -24,14 +24,14 @@ use Rattle.cursor.specs.Text.{cursor}
 use Rattle.cursor.specs.declared.Cursor.{Cursor}
 use Rattle.state.specs.Acts.{counts, log, tables, Logged, deep_or, done_of, state_after, rows_read, rules, Acts}
 use Rattle.state.specs.declared.State.{State as Kept}
-use Rattle.state.specs.declared.Done.{Done}
-use Rattle.state.specs.declared.Done.TheVariants.{Got}
+use Rattle.state.specs.Done.{Done}
 use Rattle.state.proofs.Agree.{Found, found as got_found}
 use Rattle.statement.specs.Lined.{Lined}
-use Rattle.parser.specs.Answers.{told, end_scope, end_swallow, call, Meets, Cleared, ReadSo}
-use Rattle.parser.specs.declared.Answer.{Answer}
-use Rattle.parser.specs.declared.Answer.TheVariants.{Read, TooLong, HighByte, ScopeTooLarge, LevelTooLarge, TooDeep, NoRoomForRows, NoRoomForErrors, NoRoomForRequests}
+use Rattle.parser.specs.Answers.{told, end_scope, end_swallow, call, Meets, Cleared, ReadSo, Answer}
+use Rattle.parser.specs.declared.error.ReadError.TheVariants.{TooLong, HighByte, ScopeTooLarge, LevelTooLarge, TooDeep, NoRoomForRows, NoRoomForErrors, NoRoomForRequests}
 use Rattle.parser.proofs.Room.{Kind, rows, errors, requests, number, width, need, lent, words, words_are, Readable, Enough, Before, Short, tight, short?, readable_rooms, lacks_rooms, fits_none}
+use Rattle.std.specs.Prelude.{Ok, Err, IsErr}
+use Rattle.state.proofs.Agree.{got_err}
 
 same_outcome : {r r' e e' q q' n n' : ℕ} {f f' : Bool} {t t' u u' v v' : List ℕ} → r ≡ r' → e ≡ e' → q ≡ q' → n ≡ n' → f ≡ f' → t ≡ t' → u ≡ u' → v ≡ v'
     → ◌≡◌ {A = Outcome} (record { answer = answered (record { rows = r; errors = e; requests = q }); scope = n; swallow = f; rows = t; errors = u; requests = v })
@@ -57,24 +57,24 @@ module _ {s : List ℕ} {n : ℕ} {f : Bool} {l : ℕ} {r : Done} {t e q : List 
       rw (le-ltb max_text (length s) x.short, x.plain, le-ltb max_scope n x.scope, le-ltb max_level l x.level, lt-ltb l (state_of (written s n f)).peak h)
 
   -- what does not read is too deep
-  not_read : ((d : Cursor) (st : Kept) → r ≡ Got d st → ⊥) → l < (state_of (written s n f)).peak
+  not_read : IsErr r → l < (state_of (written s n f)).peak
   unfolding done_of
   not_read h = go (written s n f) (written_answers s n f) x.acts.answer
     where
-      pick : (b : Bool) (v : Rows) (p : Input) (w : State) → ltb l w.peak ≡ b → r ≡ deep_or b (Got (record { at = record { 0 = p.at }; count = record { 0 = 0 + length v }; met = false }) (counts w)) → l < w.peak
+      pick : (b : Bool) (v : Rows) (p : Input) (w : State) → ltb l w.peak ≡ b → r ≡ deep_or b (Ok (record { at = record { 0 = p.at }; count = record { 0 = 0 + length v }; met = false }, counts w)) → l < w.peak
       pick true v p w i j = ltb-true l w.peak i
-      pick false v p w i j = absurd (h _ _ j)
+      pick false v p w i j = absurd (got_err j h)
 
       go : (o : Reply Rows) → Answered o → r ≡ done_of l 0 o → l < (state_of o).peak
       go (ok v p w) a i = pick (ltb l w.peak) v p w refl i
       go (err w) a i = let z : ◌≡◌ {A = ℕ} 0 1 = (let y = a.same in cc) in absurd (let y : ⊥ = omega arith in y)
 
-  pub deep_meets : ((d : Cursor) (st : Kept) → r ≡ Got d st → ⊥) → {t' e' q' : List ℕ} → Cleared t e q t' e' q' → Meets this t' e' q' (TooDeep l)
+  pub deep_meets : IsErr r → {t' e' q' : List ℕ} → Cleared t e q t' e' q' → Meets this t' e' q' (Err (TooDeep l))
   deep_meets h c = record { outcome_is = rw (c.rows, c.errors, c.requests) (refused_so 5 l (deep_so (not_read h))) }
 
   -- read ---------------------------------------------------------------------
 
-  module _ (d : Cursor) (st : Kept) (h : r ≡ Got d st) where
+  module _ (d : Cursor) (st : Kept) (h : r ≡ Ok (d, st)) where
     abbrev seen : Found (written s n f) l 0 d st
     seen = got_found l 0 (written s n f) d st (sym h ∙ x.acts.answer)
 
@@ -103,11 +103,11 @@ module _ {s : List ℕ} {n : ℕ} {f : Bool} {l : ℕ} {r : Done} {t e q : List 
     short_so k b i g j = readable_rooms this readable ∙ lacks_rooms k this b i ∙ ap (λ (y : ℕ). some (number k, y)) (sym (j ∙ kept_is k))
 
     module _ {t' e' q' : List ℕ} (c : Cleared t e q t' e' q') where
-      pub rows_meet : room row_width t < d.count.0 → Meets this t' e' q' (NoRoomForRows d.count.0)
+      pub rows_meet : room row_width t < d.count.0 → Meets this t' e' q' (Err (NoRoomForRows d.count.0))
       rows_meet i =
           record { outcome_is = rw (c.rows, c.errors, c.requests) (refused_so 6 d.count.0 (short_so rows tt (omega (arith, kept_is rows)) d.count.0 refl)) }
 
-      pub errors_meet : d.count.0 ≤ room row_width t → room error_width e < st.errors → Meets this t' e' q' (NoRoomForErrors st.errors)
+      pub errors_meet : d.count.0 ≤ room row_width t → room error_width e < st.errors → Meets this t' e' q' (Err (NoRoomForErrors st.errors))
       errors_meet i j =
           record {
             outcome_is = rw (c.rows, c.errors, c.requests)
@@ -115,7 +115,7 @@ module _ {s : List ℕ} {n : ℕ} {f : Bool} {l : ℕ} {r : Done} {t e q : List 
           }
 
       pub requests_meet : d.count.0 ≤ room row_width t → st.errors ≤ room error_width e → room request_width q < st.requests
-          → Meets this t' e' q' (NoRoomForRequests st.requests)
+          → Meets this t' e' q' (Err (NoRoomForRequests st.requests))
       requests_meet i j k =
           record {
             outcome_is = rw (c.rows, c.errors, c.requests)
@@ -158,7 +158,7 @@ module _ {s : List ℕ} {n : ℕ} {f : Bool} {l : ℕ} {r : Done} {t e q : List 
         → t' ≡ take (d.count.0 * row_width) t ++ zeros (length t - d.count.0 * row_width)
         → e' ≡ take (st.errors * error_width) e ++ zeros (length e - st.errors * error_width)
         → q' ≡ take (st.requests * request_width) q ++ zeros (length q - st.requests * request_width)
-        → Meets this t' e' q' (Read (record { rows = d.count.0; errors = st.errors; requests = st.requests; scope = st.scope; swallow = st.swallow }))
+        → Meets this t' e' q' (Ok (record { rows = d.count.0; errors = st.errors; requests = st.requests; scope = st.scope; swallow = st.swallow }))
     unfolding outcome needs
     read_meets i j k a b c =
         let z : refusal this ≡ none = fits_none this readable enough in
@@ -237,19 +237,19 @@ module _ (s : List ℕ) (n : ℕ) (f : Bool) (l : ℕ) (t t₀ e e₀ q q₀ : L
 -- The first four refusals --------------------------------------------------
 
 module _ (s : List ℕ) (n : ℕ) (f : Bool) (l : ℕ) (t e q : List ℕ) where
-  pub long_meets : max_text < length s → Meets (call s n f l t e q) t e q (TooLong (length s))
+  pub long_meets : max_text < length s → Meets (call s n f l t e q) t e q (Err (TooLong (length s)))
   unfolding outcome refusal
   long_meets h = record { outcome_is = rw (lt-ltb max_text (length s) h) }
 
-  pub high_meets : (i : ℕ) → length s ≤ max_text → some i ≡ first_high 0 s → Meets (call s n f l t e q) t e q (HighByte i)
+  pub high_meets : (i : ℕ) → length s ≤ max_text → some i ≡ first_high 0 s → Meets (call s n f l t e q) t e q (Err (HighByte i))
   unfolding outcome refusal
   high_meets i a h = record { outcome_is = rw (le-ltb max_text (length s) a, sym h) }
 
-  pub scope_meets : length s ≤ max_text → none ≡ first_high 0 s → max_scope < n → Meets (call s n f l t e q) t e q (ScopeTooLarge n)
+  pub scope_meets : length s ≤ max_text → none ≡ first_high 0 s → max_scope < n → Meets (call s n f l t e q) t e q (Err (ScopeTooLarge n))
   unfolding outcome refusal
   scope_meets a b h = record { outcome_is = rw (le-ltb max_text (length s) a, sym b, lt-ltb max_scope n h) }
 
-  pub level_meets : length s ≤ max_text → none ≡ first_high 0 s → n ≤ max_scope → max_level < l → Meets (call s n f l t e q) t e q (LevelTooLarge l)
+  pub level_meets : length s ≤ max_text → none ≡ first_high 0 s → n ≤ max_scope → max_level < l → Meets (call s n f l t e q) t e q (Err (LevelTooLarge l))
   unfolding outcome refusal
   level_meets a b c h = record { outcome_is = rw (le-ltb max_text (length s) a, sym b, le-ltb max_scope n c, lt-ltb max_level l h) }
 
@@ -282,12 +282,5 @@ meets_lent s n f l t t₀ e e₀ q q₀ t' e' q' r a b c h i j k m =
     same : (r : Answer)
         → ◌≡◌ {A = Outcome} (record { answer = told r; scope = end_scope (call s n f l t₀ e₀ q₀) r; swallow = end_swallow (call s n f l t₀ e₀ q₀) r; rows = t'; errors = e'; requests = q' })
         (record { answer = told r; scope = end_scope (call s n f l t e q) r; swallow = end_swallow (call s n f l t e q) r; rows = t'; errors = e'; requests = q' })
-    same (Read x) = refl
-    same (TooLong x) = refl
-    same (HighByte x) = refl
-    same (ScopeTooLarge x) = refl
-    same (LevelTooLarge x) = refl
-    same (TooDeep x) = refl
-    same (NoRoomForRows x) = refl
-    same (NoRoomForErrors x) = refl
-    same (NoRoomForRequests x) = refl
+    same (Ok x) = refl
+    same (Err x) = refl

@@ -1,5 +1,5 @@
 -- What the call's answer says in document 01's numbers, and when a call meets its definition.
-use Rattle.std.specs.Prelude.{Bool, List, [], ◌≡◌, ℕ, ◌≤◌, length}
+use Rattle.std.specs.Prelude.{Bool, List, [], ◌≡◌, ℕ, ◌≤◌, length, Result, Ok, Err}
 use Rattle.std.proofs.Math.Option.{none}
 use Rattle.reading.specs.Reading.{written, start}
 use Rattle.reading.specs.Table.{Answer as Answered, answered, refused, first_high, filled, max_text, max_scope, max_level}
@@ -8,44 +8,26 @@ use Rattle.line.specs.Lines.{lined}
 use Rattle.cursor.specs.declared.Cursor.{Cursor}
 use Rattle.state.specs.Acts.{tables, log, Acts}
 use Rattle.state.specs.declared.State.{State as Kept}
-use Rattle.state.specs.declared.Done.{Done}
-use Rattle.state.specs.declared.Done.TheVariants.{Got}
-use Rattle.parser.specs.declared.Answer.{Answer}
-use Rattle.parser.specs.declared.Answer.TheVariants.{Read, TooLong, HighByte, ScopeTooLarge, LevelTooLarge, TooDeep, NoRoomForRows, NoRoomForErrors, NoRoomForRequests}
+use Rattle.state.specs.Done.{Done}
+use Rattle.parser.specs.Refusal.{number_of, gives_of}
+use Rattle.parser.specs.declared.Reading.{Reading}
+use Rattle.parser.specs.declared.error.ReadError.{ReadError}
+
+abbrev pub Answer : Type 0
+Answer = Result Reading ReadError
 
 abbrev pub told : Answer → Answered Counts
-told (Read x) = answered (record { rows = x.rows; errors = x.errors; requests = x.requests })
-told (TooLong n) = refused 1 n
-told (HighByte n) = refused 2 n
-told (ScopeTooLarge n) = refused 3 n
-told (LevelTooLarge n) = refused 4 n
-told (TooDeep n) = refused 5 n
-told (NoRoomForRows n) = refused 6 n
-told (NoRoomForErrors n) = refused 7 n
-told (NoRoomForRequests n) = refused 8 n
+told (Ok x) = answered (record { rows = x.rows; errors = x.errors; requests = x.requests })
+told (Err e) = refused (number_of e) (gives_of e)
 
 -- the end state; a refusal's is the starting state
 abbrev pub end_scope : Call → Answer → ℕ
-end_scope c (Read x) = x.scope
-end_scope c (TooLong n) = c.scope
-end_scope c (HighByte n) = c.scope
-end_scope c (ScopeTooLarge n) = c.scope
-end_scope c (LevelTooLarge n) = c.scope
-end_scope c (TooDeep n) = c.scope
-end_scope c (NoRoomForRows n) = c.scope
-end_scope c (NoRoomForErrors n) = c.scope
-end_scope c (NoRoomForRequests n) = c.scope
+end_scope c (Ok x) = x.scope
+end_scope c (Err e) = c.scope
 
 abbrev pub end_swallow : Call → Answer → Bool
-end_swallow c (Read x) = x.swallow
-end_swallow c (TooLong n) = c.swallow
-end_swallow c (HighByte n) = c.swallow
-end_swallow c (ScopeTooLarge n) = c.swallow
-end_swallow c (LevelTooLarge n) = c.swallow
-end_swallow c (TooDeep n) = c.swallow
-end_swallow c (NoRoomForRows n) = c.swallow
-end_swallow c (NoRoomForErrors n) = c.swallow
-end_swallow c (NoRoomForRequests n) = c.swallow
+end_swallow c (Ok x) = x.swallow
+end_swallow c (Err e) = c.swallow
 
 abbrev pub call : List ℕ → ℕ → Bool → ℕ → List ℕ → List ℕ → List ℕ → Call
 call s n f l t e q = record { text = s; scope = n; swallow = f; level = l; rows = t; errors = e; requests = q }
@@ -69,5 +51,5 @@ pub record ReadSo (s : List ℕ) (n : ℕ) (f : Bool) (l : ℕ) (r : Done) (t e 
   pub e₀ : List ℕ
   pub q₀ : List ℕ
   pub draft : List ℕ
-  pub lines : (d : Cursor) (x : Kept) → r ≡ Got d x → t ≡ lined s draft d.count.0
+  pub lines : (d : Cursor) (x : Kept) → r ≡ Ok (d, x) → t ≡ lined s draft d.count.0
   pub acts : Acts (written s n f) l 0 [] (log (start n f)) (tables t₀ e₀ q₀) (tables draft e q) r

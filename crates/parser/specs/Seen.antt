@@ -3,8 +3,7 @@
 use Rattle.std.specs.Prelude.{Bool, List, ℕ}
 use Rattle.reading.specs.Table.{Answer as Answered, answered, refused}
 use Rattle.reading.specs.Outcome.{Call, Counts, Outcome}
-use Rattle.parser.specs.Answers.{told, end_scope, end_swallow}
-use Rattle.parser.specs.declared.Answer.{Answer}
+use Rattle.parser.specs.Answers.{told, end_scope, end_swallow, Answer}
 
 -- 0 for an answer, or the refusal's number
 abbrev pub code_of : {A : Type 0} → Answered A → ℕ

@@ -4,9 +4,11 @@
 ghost use Rattle.std.specs.Prelude.{Bool, List, ℕ, ◌≤◌};
 ghost use Rattle.parser.specs.Answers.{call, Meets, Cleared, ReadSo};
 
+pub mod error;
+
+use error::ReadError;
 use reading::{MAX_LEVEL, MAX_SCOPE, MAX_TEXT};
 use state::{Done, State};
-use trivia::High;
 
 // How many records there are of each kind, and the end state.
 #[derive(Clone, Copy)]
@@ -16,20 +18,6 @@ pub struct Reading {
     pub requests: usize,
     pub scope: usize,
     pub swallow: bool,
-}
-
-// The reading, or a refusal with what it gives; specs/Answers has document 01's numbers.
-#[derive(Clone, Copy)]
-pub enum Answer {
-    Read(Reading),
-    TooLong(usize),
-    HighByte(usize),
-    ScopeTooLarge(usize),
-    LevelTooLarge(usize),
-    TooDeep(usize),
-    NoRoomForRows(usize),
-    NoRoomForErrors(usize),
-    NoRoomForRequests(usize),
 }
 
 fn clear(rows: &mut [u32], errors: &mut [u32], requests: &mut [u32])
@@ -50,33 +38,33 @@ fn settle(
     rows: &mut [u32],
     errors: &mut [u32],
     requests: &mut [u32],
-) -> Answer
+) -> Result<Reading, ReadError>
     requires { ReadSo text.now scope swallow level done rows.old errors.old requests.old }
     ensures { Meets (call text.now scope swallow level rows.old errors.old requests.old) rows.new errors.new requests.new result }
 {
     let Ok((c, st)) = done else {
         clear(rows, errors, requests);
-        return Answer::TooDeep(level);
+        return Err(ReadError::TooDeep(level));
     };
     let n = c.count.0;
     let e = st.errors;
     let q = st.requests;
     if rows.len() / table::ROW < n {
         clear(rows, errors, requests);
-        return Answer::NoRoomForRows(n);
+        return Err(ReadError::NoRoomForRows(n));
     }
     if errors.len() / table::ERROR < e {
         clear(rows, errors, requests);
-        return Answer::NoRoomForErrors(e);
+        return Err(ReadError::NoRoomForErrors(e));
     }
     if requests.len() / table::REQUEST < q {
         clear(rows, errors, requests);
-        return Answer::NoRoomForRequests(q);
+        return Err(ReadError::NoRoomForRequests(q));
     }
     table::zero(rows, n * table::ROW);
     table::zero(errors, e * table::ERROR);
     table::zero(requests, q * table::REQUEST);
-    Answer::Read(Reading {
+    Ok(Reading {
         rows: n,
         errors: e,
         requests: q,
@@ -94,21 +82,20 @@ pub fn read(
     rows: &mut [u32],
     errors: &mut [u32],
     requests: &mut [u32],
-) -> Answer
+) -> Result<Reading, ReadError>
     ensures { Meets (call text.now scope swallow level rows.old errors.old requests.old) rows.new errors.new requests.new result }
 {
     if MAX_TEXT < text.len() {
-        return Answer::TooLong(text.len());
+        return Err(ReadError::TooLong(text.len()));
     }
-    let high = trivia::first_high(text);
-    if let High::At(i) = high {
-        return Answer::HighByte(i.0);
+    if let Some(high) = trivia::first_high(text) {
+        return Err(ReadError::HighByte(high.0));
     }
     if MAX_SCOPE < scope {
-        return Answer::ScopeTooLarge(scope);
+        return Err(ReadError::ScopeTooLarge(scope));
     }
     if MAX_LEVEL < level {
-        return Answer::LevelTooLarge(level);
+        return Err(ReadError::LevelTooLarge(level));
     }
     let start = State {
         scope,
