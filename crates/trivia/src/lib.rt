@@ -1,7 +1,8 @@
 // Trivia: classes of bytes, runs, comments, the items of trivia, and the call that lists them.
 #![tactic(auto)]
 
-ghost use Rattle.std.specs.Prelude.{◌≡◌, true, false, [], ◌∷◌, ◌+◌, ◌≤◌, ◌<◌, length, drop, get_or};
+ghost use Rattle.std.specs.Prelude.{◌≡◌, true, false, [], ◌∷◌, ◌+◌, ◌≤◌, ◌<◌, length, drop, get_or, position, nat_le};
+ghost use Rattle.std.specs.List.{prefix_len};
 ghost use Rattle.std.proofs.Math.Option.{none};
 ghost use Rattle.reading.specs.Byte.{blank, digit, run, begins};
 ghost use Rattle.reading.specs.Rules.{trivia, multiline_trivia};
@@ -25,18 +26,28 @@ mod kind;
 pub use error::ItemsError;
 pub use kind::ItemKind;
 
+// What is left of the text from a place on: nothing past its end.
+fn rest(s: &[u8], at: Pos) -> &[u8]
+    ensures { result.now ≡ drop at.0 s.now }
+{
+    s.get(at.0..).unwrap_or(&[])
+}
+
 // The end of the run that starts here, of bytes of the class if `inside` is set, and of bytes that are not of it if not.
 pub fn run_end(s: &[u8], at: Pos, class: Class, inside: bool) -> Pos
     ensures { result.0 ≡ at.0 + run (among (bit_of class) inside) (drop at.0 s.now) }
 {
-    let mut i = at.0;
-    while i < s.len() {
-        if !class.among(s[i], inside) {
-            return Pos(i);
-        }
-        i += 1;
-    }
-    Pos(i)
+    Pos(at.0 + in_front(rest(s, at), class, inside))
+}
+
+// How many bytes of the class stand in front, or how many that are not of it.
+fn in_front(s: &[u8], class: Class, inside: bool) -> usize
+    ensures is { result ≡ prefix_len (among (bit_of class) inside) s.now }
+    ensures within { result ≤ length s.now }
+{
+    s.iter()
+        .take_while(|b| class.among(**b, inside))
+        .count()
 }
 
 // The end of the name that starts here, in which `also` may stand beside letters and digits; `at` where none does.
@@ -79,22 +90,14 @@ pub fn digits_end(s: &[u8], at: Pos) -> Pos
 pub fn byte_is(s: &[u8], at: Pos, b: u8) -> bool
     ensures { result ≡ begins (b ∷ []) (drop at.0 s.now) }
 {
-    let i = at.0;
-    if s.len() <= i {
-        return false;
-    }
-    b == s[i]
+    s.get(at.0) == Some(&b)
 }
 
 // The two bytes stand here.
 pub fn two_are(s: &[u8], at: Pos, a: u8, b: u8) -> bool
     ensures { result ≡ begins (a ∷ b ∷ []) (drop at.0 s.now) }
 {
-    let i = at.0;
-    if s.len() <= i {
-        return false;
-    }
-    (a == s[i]) & byte_is(s, Pos(i + 1), b)
+    byte_is(s, at, a) && byte_is(s, Pos(at.0 + 1), b)
 }
 
 // One item of trivia.
@@ -246,41 +249,21 @@ pub fn multiline_trivia(s: &[u8], at: Pos, met: bool) -> Skip
     skip(s, at, met, true)
 }
 
-// There is a byte of 128 or more. Every byte is looked at, so that the compiler compares many at once.
-fn any_high(s: &[u8]) -> bool
-    ensures { result ≡ false → none ≡ first_high 0 s.now }
-{
-    let mut found = false;
-    let mut i: usize = 0;
-    while i < s.len() {
-        found = found | (128 <= s[i]);
-        i += 1;
-    }
-    found
-}
-
-// Where the first byte of 128 or more stands.
+// Where the first byte of 128 or more stands. Most often there is none, which `is_ascii` tells many bytes at a time.
 pub fn first_high(s: &[u8]) -> Option<Pos>
     ensures { high_of result ≡ first_high 0 s.now }
 {
-    if !any_high(s) {
+    if s.is_ascii() {
         return None;
     }
-    high_byte(s)
+    let i = high_place(s)?;
+    Some(Pos(i))
 }
 
-// The same, byte by byte.
-fn high_byte(s: &[u8]) -> Option<Pos>
-    ensures { high_of result ≡ first_high 0 s.now }
+fn high_place(s: &[u8]) -> Option<usize>
+    ensures { result ≡ position (λ b. nat_le 128 b) s.now }
 {
-    let mut i: usize = 0;
-    while i < s.len() {
-        if 128 <= s[i] {
-            return Some(Pos(i));
-        }
-        i += 1;
-    }
-    None
+    s.iter().position(|b| 128 <= *b)
 }
 
 // An item's words in a table: kind, low, high.
