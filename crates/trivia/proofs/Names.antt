@@ -1,13 +1,15 @@
 -- Where what starts with a byte of one class and goes on with bytes of another ends.
 use mathlib.Core.Path.{◌≡◌, refl, ap, sym, ◌∙◌}
-use mathlib.Core.Bool.{Bool, true, false, cond, ◌&&◌, and-true}
+use mathlib.Core.Bool.{Bool, true, false, cond, ◌&&◌, and-true, or_comm}
 use mathlib.Core.List.{List, [], ◌∷◌}
-use Prim.Native.Nat.{ℕ, suc, ◌+◌, ◌≤◌, ◌<◌}
+use Prim.Native.Nat.{ℕ, suc, ◌+◌, ◌-◌, ◌≤◌, ◌<◌}
 use native.Mathlib.Nat.{add-zero}
 use native.Mathlib.Omega.{arith}
-use lib.ListN.{length, get_or, drop, drop_of_length-le}
-use Rattle.reading.specs.Byte.{run, begins}
+use lib.ListN.{length, take, get_or, drop, drop_of_length-le}
+use Rattle.reading.specs.Byte.{run, begins, letter, within}
+use Rattle.std.specs.Char.{is_ascii_alphabetic}
 use Rattle.std.specs.List.{prefix_len}
+use Rattle.std.proofs.lemmas.List.{take_all}
 use Rattle.cursor.proofs.Places.{cons, begins_at, begins_end}
 use lib.Dec.{eqb, ltb}
 use borrow.Author.Tests.{ltb-true, ltb-false}
@@ -44,3 +46,15 @@ second_begins a b s i e = go (ltb i (length s)) refl
         let first = sym (begins_at a [] s i lt) ∙ e in
         begins_at a (b ∷ []) s i lt ∙ ap (◌&& begins (b ∷ []) (drop (i + 1) s)) (sym (and-true (eqb a (get_or s i 0))) ∙ first)
     go false h = absurd (let z : true ≡ false = sym e ∙ begins_end a [] s i (ltb-false _ _ h) in let y : ◌≡◌ {A = ℕ} 0 1 = cc in omega arith)
+
+-- a name: its first byte, and those behind
+pub name_front : (f g : ℕ → Bool) (s : List ℕ) {n : ℕ} → 1 ≤ length s → f (get_or s 0 0) ≡ true → n ≡ prefix_len g (take (length s - 1) (drop 1 s)) → 1 + n ≡ name_run f g s
+name_front f g [] h e q = absurd (omega arith)
+name_front f g (b ∷ t) {n} h e q =
+    let all : take (length (b ∷ t) - 1) t ≡ t = take_all (length (b ∷ t) - 1) t (omega arith) in
+    let m : n ≡ run g t = q ∙ ap (prefix_len g) all ∙ run_prefix g t in
+    ap (1 +◌) m ∙ (let z : 1 + run g t ≡ suc (run g t) = omega arith in z) ∙ ap (λ x. cond x (suc (run g t)) 0) (sym e)
+
+-- a letter in std's words
+pub letter_is : (b : ℕ) → is_ascii_alphabetic b ≡ letter b
+letter_is b = or_comm (within 65 90 b) (within 97 122 b)

@@ -4,7 +4,7 @@
 ghost use Rattle.std.specs.Prelude.{◌≡◌, true, false, [], ◌∷◌, ◌+◌, ◌≤◌, ◌<◌, length, drop, get_or, position, nat_le};
 ghost use Rattle.std.specs.List.{prefix_len};
 ghost use Rattle.std.proofs.Math.Option.{none};
-ghost use Rattle.reading.specs.Byte.{blank, digit, run, begins};
+ghost use Rattle.reading.specs.Byte.{digit, run, begins};
 ghost use Rattle.reading.specs.Rules.{trivia, multiline_trivia};
 ghost use Rattle.reading.specs.Table.{max_text, first_high};
 ghost use Rattle.reading.specs.Items.{trivia_items};
@@ -45,44 +45,33 @@ fn in_front(s: &[u8], class: Class, inside: bool) -> usize
     ensures is { result ≡ prefix_len (among (bit_of class) inside) s.now }
     ensures within { result ≤ length s.now }
 {
-    s.iter()
-        .take_while(|b| class.among(**b, inside))
-        .count()
+    s.iter().take_while(|b| class.among(**b, inside)).count()
 }
 
 // The end of the name that starts here, in which `also` may stand beside letters and digits; `at` where none does.
 pub fn name_end(s: &[u8], at: Pos, also: u8) -> Pos
     ensures { result.0 ≡ at.0 + name_run (starts also) (goes also) (drop at.0 s.now) }
 {
-    let mut i = at.0;
-    if s.len() <= i {
-        return at;
-    }
-    let b = s[i];
-    if !(class::letter(b) | (b == also)) {
-        return at;
-    }
-    i += 1;
-    while i < s.len() {
-        if !class::goes_on(s[i], also) {
-            return Pos(i);
+    match rest(s, at) {
+        [b, behind @ ..] if b.is_ascii_alphabetic() | (*b == also) => {
+            Pos(at.0 + 1 + going_on(behind, also))
         }
-        i += 1;
+        _ => at,
     }
-    Pos(i)
 }
 
-// The end of the digits that start here. Most often there is none, which the first byte tells.
+// How many bytes in front go on in a name.
+fn going_on(s: &[u8], also: u8) -> usize
+    ensures is { result ≡ prefix_len (goes also) s.now }
+    ensures within { result ≤ length s.now }
+{
+    s.iter().take_while(|b| class::goes_on(**b, also)).count()
+}
+
+// The end of the digits that start here.
 pub fn digits_end(s: &[u8], at: Pos) -> Pos
     ensures { result.0 ≡ at.0 + run digit (drop at.0 s.now) }
 {
-    let i = at.0;
-    if s.len() <= i {
-        return at;
-    }
-    if !class::digit(s[i]) {
-        return at;
-    }
     run_end(s, at, Class::Digit, true)
 }
 
@@ -138,20 +127,6 @@ fn comment_item(s: &[u8], at: Pos) -> Option<Item>
     None
 }
 
-// The end of the blanks that go on here. Most often a blank stands alone, which the next byte tells.
-fn blanks_end(s: &[u8], at: Pos) -> Pos
-    ensures { result.0 ≡ at.0 + run blank (drop at.0 s.now) }
-{
-    let i = at.0;
-    if s.len() <= i {
-        return at;
-    }
-    if !class::blank(s[i]) {
-        return at;
-    }
-    run_end(s, at, Class::Blank, true)
-}
-
 // What starts here. Most bytes stand above the space and start nothing; they are answered first.
 pub fn trivia_item(s: &[u8], at: Pos) -> Option<Item>
     ensures { Starts s.now at.0 result }
@@ -162,35 +137,18 @@ pub fn trivia_item(s: &[u8], at: Pos) -> Option<Item>
     }
     let b = s[low];
     if b' ' < b {
-        if b == b'/' {
-            return comment_item(s, at);
-        }
-        return None;
+        return if b == b'/' { comment_item(s, at) } else { None };
     }
-    if class::blank(b) {
-        let end = blanks_end(s, Pos(low + 1));
-        return Some(Item {
-            kind: ItemKind::Whitespace,
-            end,
-        });
-    }
-    match b {
-        b'\n' => Some(Item {
-            kind: ItemKind::Newline,
-            end: Pos(low + 1),
-        }),
-        b'\r' => {
-            if byte_is(s, Pos(low + 1), b'\n') {
-                Some(Item {
-                    kind: ItemKind::Newline,
-                    end: Pos(low + 2),
-                })
-            } else {
-                None
-            }
-        }
-        _ => None,
-    }
+    let (kind, end) = match b {
+        b' ' | b'\t' => (
+            ItemKind::Whitespace,
+            run_end(s, Pos(low + 1), Class::Blank, true),
+        ),
+        b'\n' => (ItemKind::Newline, Pos(low + 1)),
+        b'\r' if byte_is(s, Pos(low + 1), b'\n') => (ItemKind::Newline, Pos(low + 2)),
+        _ => return None,
+    };
+    Some(Item { kind, end })
 }
 
 // One item after another, line ends too or not.
