@@ -27,15 +27,6 @@ module _ (f g : ℕ → Bool) (s : List ℕ) (i : ℕ) where
       ap (λ t. i + name_run f g t) (cons s i h) ∙ ap (λ x. i + cond x (suc (run g (drop (i + 1) s))) 0) e
       ∙ (let z : i + suc (run g (drop (i + 1) s)) ≡ (i + 1) + run g (drop (i + 1) s) = omega arith in z)
 
--- std's word for the length of a run
-pub run_prefix : (f : ℕ → Bool) (s : List ℕ) → prefix_len f s ≡ run f s
-run_prefix f [] = refl
-run_prefix f (b ∷ t) = ap (λ n. cond (f b) (1 + n) 0) (run_prefix f t) ∙ go (f b)
-  where
-    go : (x : Bool) → cond x (1 + run f t) 0 ≡ elim x [ true ↦ suc (run f t) | false ↦ 0 ]
-    go true = omega arith
-    go false = refl
-
 -- where the first of two bytes stands, the second decides
 pub second_begins : (a b : ℕ) (s : List ℕ) (i : ℕ) → begins (a ∷ []) (drop i s) ≡ true → begins (a ∷ b ∷ []) (drop i s) ≡ begins (b ∷ []) (drop (i + 1) s)
 second_begins a b s i e = go (ltb i (length s)) refl
@@ -46,15 +37,3 @@ second_begins a b s i e = go (ltb i (length s)) refl
         let first = sym (begins_at a [] s i lt) ∙ e in
         begins_at a (b ∷ []) s i lt ∙ ap (◌&& begins (b ∷ []) (drop (i + 1) s)) (sym (and-true (eqb a (get_or s i 0))) ∙ first)
     go false h = absurd (let z : true ≡ false = sym e ∙ begins_end a [] s i (ltb-false _ _ h) in let y : ◌≡◌ {A = ℕ} 0 1 = cc in omega arith)
-
--- a name: its first byte, and those behind
-pub name_front : (f g : ℕ → Bool) (s : List ℕ) {n : ℕ} → 1 ≤ length s → f (get_or s 0 0) ≡ true → n ≡ prefix_len g (take (length s - 1) (drop 1 s)) → 1 + n ≡ name_run f g s
-name_front f g [] h e q = absurd (omega arith)
-name_front f g (b ∷ t) {n} h e q =
-    let all : take (length (b ∷ t) - 1) t ≡ t = take_all (length (b ∷ t) - 1) t (omega arith) in
-    let m : n ≡ run g t = q ∙ ap (prefix_len g) all ∙ run_prefix g t in
-    ap (1 +◌) m ∙ (let z : 1 + run g t ≡ suc (run g t) = omega arith in z) ∙ ap (λ x. cond x (suc (run g t)) 0) (sym e)
-
--- a letter in std's words
-pub letter_is : (b : ℕ) → is_ascii_alphabetic b ≡ letter b
-letter_is b = or_comm (within 65 90 b) (within 97 122 b)

@@ -2,7 +2,6 @@
 #![tactic(auto)]
 
 ghost use Rattle.std.specs.Prelude.{◌≡◌, true, false, [], ◌∷◌, ◌+◌, ◌≤◌, ◌<◌, length, drop, get_or, position, nat_le};
-ghost use Rattle.std.specs.List.{prefix_len};
 ghost use Rattle.std.proofs.Math.Option.{none};
 ghost use Rattle.reading.specs.Byte.{digit, run, begins};
 ghost use Rattle.reading.specs.Rules.{trivia, multiline_trivia};
@@ -26,53 +25,42 @@ mod kind;
 pub use error::ItemsError;
 pub use kind::ItemKind;
 
-// What is left of the text from a place on: nothing past its end.
-fn rest(s: &[u8], at: Pos) -> &[u8]
-    ensures { result.now ≡ drop at.0 s.now }
-{
-    s.get(at.0..).unwrap_or(&[])
-}
-
 // The end of the run that starts here, of bytes of the class if `inside` is set, and of bytes that are not of it if not.
 pub fn run_end(s: &[u8], at: Pos, class: Class, inside: bool) -> Pos
     ensures { result.0 ≡ at.0 + run (among (bit_of class) inside) (drop at.0 s.now) }
 {
-    Pos(at.0 + in_front(rest(s, at), class, inside))
-}
-
-// How many bytes of the class stand in front, or how many that are not of it.
-fn in_front(s: &[u8], class: Class, inside: bool) -> usize
-    ensures is { result ≡ prefix_len (among (bit_of class) inside) s.now }
-    ensures within { result ≤ length s.now }
-{
-    s.iter().take_while(|b| class.among(**b, inside)).count()
+    for i in at.0..s.len() {
+        if !class.among(s[i], inside) {
+            return Pos(i);
+        }
+    }
+    Pos(at.0.max(s.len()))
 }
 
 // The end of the name that starts here, in which `also` may stand beside letters and digits; `at` where none does.
 pub fn name_end(s: &[u8], at: Pos, also: u8) -> Pos
     ensures { result.0 ≡ at.0 + name_run (starts also) (goes also) (drop at.0 s.now) }
 {
-    match rest(s, at) {
-        [b, behind @ ..] if b.is_ascii_alphabetic() | (*b == also) => {
-            Pos(at.0 + 1 + going_on(behind, also))
-        }
-        _ => at,
+    match s.get(at.0) {
+        Some(b) if b.is_ascii_alphabetic() | (*b == also) => {}
+        _ => return at,
     }
+    for i in at.0 + 1..s.len() {
+        if !class::goes_on(s[i], also) {
+            return Pos(i);
+        }
+    }
+    Pos(s.len())
 }
 
-// How many bytes in front go on in a name.
-fn going_on(s: &[u8], also: u8) -> usize
-    ensures is { result ≡ prefix_len (goes also) s.now }
-    ensures within { result ≤ length s.now }
-{
-    s.iter().take_while(|b| class::goes_on(**b, also)).count()
-}
-
-// The end of the digits that start here.
+// The end of the digits that start here. Most often there is none, which the first byte tells.
 pub fn digits_end(s: &[u8], at: Pos) -> Pos
     ensures { result.0 ≡ at.0 + run digit (drop at.0 s.now) }
 {
-    run_end(s, at, Class::Digit, true)
+    match s.get(at.0) {
+        Some(b) if b.is_ascii_digit() => run_end(s, at, Class::Digit, true),
+        _ => at,
+    }
 }
 
 // The byte stands here.
@@ -177,12 +165,11 @@ fn skip(s: &[u8], at: Pos, met: bool, lines: bool) -> Skip
 fn bare(s: &[u8], at: Pos, lines: bool) -> bool
     ensures { result ≡ true → Nothing lines s.now at.0 }
 {
-    let i = at.0;
-    if s.len() <= i {
-        return false;
+    match s.get(at.0) {
+        Some(b'\n') => !lines,
+        Some(b) => (b' ' < *b) & (*b != b'/'),
+        None => false,
     }
-    let b = s[i];
-    ((b == b'\n') & !lines) | ((b' ' < b) & (b != b'/'))
 }
 
 // Trivia of one line, as ws reads it; `met` is that an open comment was met before.
