@@ -5,6 +5,7 @@ ghost use Rattle.reading.specs.Byte.{run};
 ghost use Rattle.trivia.specs.Class.{in_line};
 ghost use Rattle.trivia.specs.Piece.{closed, closes_at, either_at, Clear, Unmarked};
 
+use crate::two_are;
 use table::Pos;
 
 // How many bytes are looked at together, of a text and of a line.
@@ -18,10 +19,8 @@ fn block_closes(s: &[u8], at: Pos) -> bool
     ensures { result ≡ false → Clear (closes_at s.now) at.0 (at.0 + 64) }
 {
     let mut found = false;
-    let mut j: usize = 0;
-    while j < BLOCK {
-        found = found | ((s[at.0 + j] == b'*') & (s[at.0 + j + 1] == b'/'));
-        j += 1;
+    for i in at.0..at.0 + BLOCK {
+        found |= (s[i] == b'*') & (s[i + 1] == b'/');
     }
     found
 }
@@ -47,16 +46,10 @@ fn blocks_end(s: &[u8], at: Pos) -> Pos
 fn closes(s: &[u8], at: Pos) -> bool
     ensures { result ≡ false → Clear (closes_at s.now) at.0 (length s.now) }
 {
-    let mut i = blocks_end(s, at).0;
-    while i < s.len() {
-        let next = i + 1;
-        if s.len() <= next {
-            return false;
-        }
-        if (s[i] == b'*') & (s[next] == b'/') {
+    for i in blocks_end(s, at).0..s.len() {
+        if two_are(s, Pos(i), b'*', b'/') {
             return true;
         }
-        i = next;
     }
     false
 }
@@ -67,11 +60,8 @@ fn block_has(s: &[u8], at: Pos, a: u8, b: u8) -> bool
     ensures { result ≡ false → Clear (either_at a b s.now) at.0 (at.0 + 16) }
 {
     let mut found = false;
-    let mut j: usize = 0;
-    while j < SHORT {
-        let x = s[at.0 + j];
-        found = found | ((x == a) | (x == b));
-        j += 1;
+    for i in at.0..at.0 + SHORT {
+        found |= (s[i] == a) | (s[i] == b);
     }
     found
 }
@@ -136,9 +126,10 @@ pub fn c_comment(s: &[u8], at: Pos) -> Option<Pos>
     ensures { result ≡ closed s.now at.0 }
 {
     if closes(s, at) {
-        return marks_end(s, at);
+        marks_end(s, at)
+    } else {
+        None
     }
-    None
 }
 
 // The end of the blocks from here on in which no line ends; the line goes on there.
@@ -162,13 +153,11 @@ fn line_blocks(s: &[u8], at: Pos) -> Pos
 pub fn line_end(s: &[u8], at: Pos) -> Pos
     ensures { result.0 ≡ at.0 + run in_line (drop at.0 s.now) }
 {
-    let mut i = line_blocks(s, at).0;
-    while i < s.len() {
-        let b = s[i];
-        if (b == b'\n') | (b == b'\r') {
+    let blocks = line_blocks(s, at).0;
+    for i in blocks..s.len() {
+        if (s[i] == b'\n') | (s[i] == b'\r') {
             return Pos(i);
         }
-        i += 1;
     }
-    Pos(i)
+    Pos(blocks.max(s.len()))
 }
