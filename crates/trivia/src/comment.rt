@@ -30,13 +30,7 @@ fn blocks_end(s: &[u8], at: Pos) -> Pos
     ensures { Clear (closes_at s.now) at.0 result.0 }
 {
     let mut i = at.0;
-    while i < s.len() {
-        if s.len() - i <= BLOCK {
-            return Pos(i);
-        }
-        if block_closes(s, Pos(i)) {
-            return Pos(i);
-        }
+    while BLOCK < s.len().saturating_sub(i) && !block_closes(s, Pos(i)) {
         i += BLOCK;
     }
     Pos(i)
@@ -71,54 +65,34 @@ fn starless_end(s: &[u8], at: Pos) -> Pos
     ensures { Unmarked s.now at.0 result.0 }
 {
     let mut i = at.0;
-    while i < s.len() {
-        if s.len() - i < SHORT {
-            return Pos(i);
-        }
-        if block_has(s, Pos(i), b'*', b'*') {
-            return Pos(i);
-        }
+    while SHORT <= s.len().saturating_sub(i) && !block_has(s, Pos(i), b'*', b'*') {
         i += SHORT - 1;
     }
     Pos(i)
 }
 
 // The end of the block comment, mark by mark. Comments nest, and no byte belongs to two marks.
-// The inner loop goes to the next slash or star. It leaves both loops at the mark that closes the comment and at the text's end.
 fn marks_end(s: &[u8], at: Pos) -> Option<Pos>
     ensures { result ≡ closed s.now at.0 }
 {
-    let mut i = at.0;
     let mut open: usize = 0;
-    let end = 'marks: loop {
-        i = starless_end(s, Pos(i)).0;
-        loop {
-            if s.len() <= i {
-                break 'marks None;
-            }
-            let b = s[i];
-            i += 1;
-            if !((b == b'/') | (b == b'*')) {
-                continue;
-            }
-            if s.len() <= i {
-                break 'marks None;
-            }
-            let c = s[i];
-            if (b == b'*') & (c == b'/') {
-                i += 1;
-                if open == 0 {
-                    break 'marks Some(Pos(i));
-                }
+    let mut i = starless_end(s, at).0;
+    while 1 < s.len().saturating_sub(i) {
+        match (s[i], s[i + 1]) {
+            (b'*', b'/') if open == 0 => return Some(Pos(i + 2)),
+            (b'*', b'/') => {
                 open -= 1;
-            } else if (b == b'/') & (c == b'*') {
-                i += 1;
-                open += 1;
+                i = starless_end(s, Pos(i + 2)).0;
             }
-            break;
+            (b'/', b'*') => {
+                open += 1;
+                i = starless_end(s, Pos(i + 2)).0;
+            }
+            (b'*', _) => i = starless_end(s, Pos(i + 1)).0,
+            _ => i += 1,
         }
-    };
-    end
+    }
+    None
 }
 
 // The end of the block comment whose mark stands right before `at`. One that nothing closes is found open at once.
@@ -137,13 +111,7 @@ fn line_blocks(s: &[u8], at: Pos) -> Pos
     ensures { at.0 + run in_line (drop at.0 s.now) ≡ result.0 + run in_line (drop result.0 s.now) }
 {
     let mut i = at.0;
-    while i < s.len() {
-        if s.len() - i < SHORT {
-            return Pos(i);
-        }
-        if block_has(s, Pos(i), b'\n', b'\r') {
-            return Pos(i);
-        }
+    while SHORT <= s.len().saturating_sub(i) && !block_has(s, Pos(i), b'\n', b'\r') {
         i += SHORT;
     }
     Pos(i)
