@@ -75,9 +75,10 @@ fn starless_end(s: &[u8], at: Pos) -> Pos
 fn marks_end(s: &[u8], at: Pos) -> Option<Pos>
     ensures { result ≡ closed s.now at.0 }
 {
+    let last = s.len().saturating_sub(1);
     let mut open: usize = 0;
     let mut i = starless_end(s, at).0;
-    while 1 < s.len().saturating_sub(i) {
+    while i < last {
         match (s[i], s[i + 1]) {
             (b'*', b'/') if open == 0 => return Some(Pos(i + 2)),
             (b'*', b'/') => {
