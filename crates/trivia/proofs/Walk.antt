@@ -4,7 +4,7 @@ use mathlib.Core.Bool.{Bool, true, false, ◌||◌, ◌&&◌, not, cond, or-fals
 use mathlib.Core.List.{List, [], ◌∷◌, ◌++◌}
 use Prim.Native.Nat.{ℕ, ◌+◌, ◌≤◌, ◌<◌}
 use native.Mathlib.Omega.{arith}
-use borrow.Author.Tests.{lt-ltb, eqb-true}
+use borrow.Author.Tests.{lt-ltb, ltb-true}
 use lib.Dec.{eqb, ltb}
 use lib.ListN.{length, get_or, drop, length-drop}
 use Rattle.reading.specs.Grammar.{Rows, Rule, ◌▸◌, many0, joined}
@@ -13,7 +13,8 @@ use Rattle.reading.specs.Summary.{fits, more, thenˢ, elseˢ, withˢ, last_round
 use Rattle.cursor.specs.Text.{here, skip, Skips}
 use Rattle.table.specs.declared.Pos.{Pos}
 use Rattle.trivia.specs.Piece.{summary_of, item_for, trivia_of, kept, Bounded, Starts, Nothing}
-use Rattle.trivia.proofs.Pieces.{both, starts_feed, starts_plain, an}
+use Rattle.trivia.proofs.Pieces.{starts_feed, starts_plain, an}
+use Rattle.std.proofs.lemmas.List.{get_or_read}
 use Rattle.std.specs.Prelude.{Option as Optional, Some, None}
 use Rattle.trivia.specs.Kind.{item_number}
 use Rattle.trivia.specs.declared.Item.{Item}
@@ -75,19 +76,29 @@ unfolding kept
 kept_same true x h = refl
 kept_same false x h = ap (λ (b : Bool). cond b None (Some x)) (sym (and-true (eqb (item_number x.kind) 2)) ∙ h)
 
--- a line feed on one line, or a byte above the space that is no slash
-pub nothing : (lines : Bool) (s : List ℕ) (i : ℕ) → i < length s → (eqb (get_or s i 0) 10 && not lines) || (ltb 32 (get_or s i 0) && not (eqb (get_or s i 0) 47)) ≡ true → Nothing lines s i
-nothing lines s i h = go (eqb (get_or s i 0) 10 && not lines) refl
-  where
-    go : (x : Bool) → eqb (get_or s i 0) 10 && not lines ≡ x → x || (ltb 32 (get_or s i 0) && not (eqb (get_or s i 0) 47)) ≡ true → Nothing lines s i
-    go true q e =
-        let z = both (eqb (get_or s i 0) 10) (not lines) q in
-        record {
-          piece = an Newline (record { 0 = i + 1 });
-          starts = starts_feed s i h (eqb-true (get_or s i 0) 10 z.0);
-          none = kept_no lines (record { kind = Newline; end = record { 0 = i + 1 } }) z.1;
-        }
-    go false q e = record { piece = None; starts = starts_plain s i h e; none = kept_none lines }
+-- the byte x stands at a place: a line feed on one line, or one above the space that is no slash
+module _ (lines : Bool) (s : List ℕ) (i : ℕ) {x : ℕ} (h : true ≡ ltb i (length s)) (e : x ≡ get_or s i x) where
+  within : i < length s
+  within = ltb-true i (length s) (sym h)
+
+  byte : x ≡ get_or s i 0
+  byte = get_or_read s i x within e 0
+
+  pub nothing_feed : x ≡ 10 → not lines ≡ true → Nothing lines s i
+  nothing_feed q n =
+      record {
+        piece = an Newline (record { 0 = i + 1 });
+        starts = starts_feed s i within (sym byte ∙ q);
+        none = kept_no lines (record { kind = Newline; end = record { 0 = i + 1 } }) n;
+      }
+
+  pub nothing_plain : ltb 32 x && not (eqb x 47) ≡ true → Nothing lines s i
+  nothing_plain q =
+      record {
+        piece = None;
+        starts = starts_plain s i within (ap (λ b. ltb 32 b && not (eqb b 47)) (sym byte) ∙ q);
+        none = kept_none lines;
+      }
 
 -- one item after another, and then none
 pub data Walk (lines : Bool) (s : List ℕ) : ℕ → Bool → ℕ → Type 0 where

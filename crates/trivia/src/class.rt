@@ -79,22 +79,3 @@ pub fn goes_on(b: u8, also: u8) -> bool
 {
     (Class::Letter.has(b) | Class::Digit.has(b)) | (b == also)
 }
-
-// Three classes by comparisons, for a single byte. Each promises what the table says.
-pub fn blank(b: u8) -> bool
-    ensures { result ≡ member 0 b }
-{
-    (b == b' ') | (b == b'\t')
-}
-
-pub fn letter(b: u8) -> bool
-    ensures { result ≡ member 1 b }
-{
-    b.is_ascii_alphabetic()
-}
-
-pub fn digit(b: u8) -> bool
-    ensures { result ≡ member 2 b }
-{
-    b.is_ascii_digit()
-}

@@ -5,6 +5,7 @@ ghost use Rattle.reading.specs.Byte.{run};
 ghost use Rattle.trivia.specs.Class.{in_line};
 ghost use Rattle.trivia.specs.Piece.{closed, closes_at, either_at, Clear, Unmarked};
 
+use crate::two_are;
 use table::Pos;
 
 // How many bytes are looked at together, of a text and of a line.
@@ -18,10 +19,8 @@ fn block_closes(s: &[u8], at: Pos) -> bool
     ensures { result ≡ false → Clear (closes_at s.now) at.0 (at.0 + 64) }
 {
     let mut found = false;
-    let mut j: usize = 0;
-    while j < BLOCK {
-        found = found | ((s[at.0 + j] == b'*') & (s[at.0 + j + 1] == b'/'));
-        j += 1;
+    for i in at.0..at.0 + BLOCK {
+        found |= (s[i] == b'*') & (s[i + 1] == b'/');
     }
     found
 }
@@ -31,13 +30,7 @@ fn blocks_end(s: &[u8], at: Pos) -> Pos
     ensures { Clear (closes_at s.now) at.0 result.0 }
 {
     let mut i = at.0;
-    while i < s.len() {
-        if s.len() - i <= BLOCK {
-            return Pos(i);
-        }
-        if block_closes(s, Pos(i)) {
-            return Pos(i);
-        }
+    while BLOCK < s.len().saturating_sub(i) && !block_closes(s, Pos(i)) {
         i += BLOCK;
     }
     Pos(i)
@@ -47,16 +40,10 @@ fn blocks_end(s: &[u8], at: Pos) -> Pos
 fn closes(s: &[u8], at: Pos) -> bool
     ensures { result ≡ false → Clear (closes_at s.now) at.0 (length s.now) }
 {
-    let mut i = blocks_end(s, at).0;
-    while i < s.len() {
-        let next = i + 1;
-        if s.len() <= next {
-            return false;
-        }
-        if (s[i] == b'*') & (s[next] == b'/') {
+    for i in blocks_end(s, at).0..s.len() {
+        if two_are(s, Pos(i), b'*', b'/') {
             return true;
         }
-        i = next;
     }
     false
 }
@@ -67,11 +54,8 @@ fn block_has(s: &[u8], at: Pos, a: u8, b: u8) -> bool
     ensures { result ≡ false → Clear (either_at a b s.now) at.0 (at.0 + 16) }
 {
     let mut found = false;
-    let mut j: usize = 0;
-    while j < SHORT {
-        let x = s[at.0 + j];
-        found = found | ((x == a) | (x == b));
-        j += 1;
+    for i in at.0..at.0 + SHORT {
+        found |= (s[i] == a) | (s[i] == b);
     }
     found
 }
@@ -81,54 +65,35 @@ fn starless_end(s: &[u8], at: Pos) -> Pos
     ensures { Unmarked s.now at.0 result.0 }
 {
     let mut i = at.0;
-    while i < s.len() {
-        if s.len() - i < SHORT {
-            return Pos(i);
-        }
-        if block_has(s, Pos(i), b'*', b'*') {
-            return Pos(i);
-        }
+    while SHORT <= s.len().saturating_sub(i) && !block_has(s, Pos(i), b'*', b'*') {
         i += SHORT - 1;
     }
     Pos(i)
 }
 
 // The end of the block comment, mark by mark. Comments nest, and no byte belongs to two marks.
-// The inner loop goes to the next slash or star. It leaves both loops at the mark that closes the comment and at the text's end.
 fn marks_end(s: &[u8], at: Pos) -> Option<Pos>
     ensures { result ≡ closed s.now at.0 }
 {
-    let mut i = at.0;
+    let last = s.len().saturating_sub(1);
     let mut open: usize = 0;
-    let end = 'marks: loop {
-        i = starless_end(s, Pos(i)).0;
-        loop {
-            if s.len() <= i {
-                break 'marks None;
-            }
-            let b = s[i];
-            i += 1;
-            if !((b == b'/') | (b == b'*')) {
-                continue;
-            }
-            if s.len() <= i {
-                break 'marks None;
-            }
-            let c = s[i];
-            if (b == b'*') & (c == b'/') {
-                i += 1;
-                if open == 0 {
-                    break 'marks Some(Pos(i));
-                }
+    let mut i = starless_end(s, at).0;
+    while i < last {
+        match (s[i], s[i + 1]) {
+            (b'*', b'/') if open == 0 => return Some(Pos(i + 2)),
+            (b'*', b'/') => {
                 open -= 1;
-            } else if (b == b'/') & (c == b'*') {
-                i += 1;
-                open += 1;
+                i = starless_end(s, Pos(i + 2)).0;
             }
-            break;
+            (b'/', b'*') => {
+                open += 1;
+                i = starless_end(s, Pos(i + 2)).0;
+            }
+            (b'*', _) => i = starless_end(s, Pos(i + 1)).0,
+            _ => i += 1,
         }
-    };
-    end
+    }
+    None
 }
 
 // The end of the block comment whose mark stands right before `at`. One that nothing closes is found open at once.
@@ -136,9 +101,10 @@ pub fn c_comment(s: &[u8], at: Pos) -> Option<Pos>
     ensures { result ≡ closed s.now at.0 }
 {
     if closes(s, at) {
-        return marks_end(s, at);
+        marks_end(s, at)
+    } else {
+        None
     }
-    None
 }
 
 // The end of the blocks from here on in which no line ends; the line goes on there.
@@ -146,13 +112,7 @@ fn line_blocks(s: &[u8], at: Pos) -> Pos
     ensures { at.0 + run in_line (drop at.0 s.now) ≡ result.0 + run in_line (drop result.0 s.now) }
 {
     let mut i = at.0;
-    while i < s.len() {
-        if s.len() - i < SHORT {
-            return Pos(i);
-        }
-        if block_has(s, Pos(i), b'\n', b'\r') {
-            return Pos(i);
-        }
+    while SHORT <= s.len().saturating_sub(i) && !block_has(s, Pos(i), b'\n', b'\r') {
         i += SHORT;
     }
     Pos(i)
@@ -162,13 +122,11 @@ fn line_blocks(s: &[u8], at: Pos) -> Pos
 pub fn line_end(s: &[u8], at: Pos) -> Pos
     ensures { result.0 ≡ at.0 + run in_line (drop at.0 s.now) }
 {
-    let mut i = line_blocks(s, at).0;
-    while i < s.len() {
-        let b = s[i];
-        if (b == b'\n') | (b == b'\r') {
+    let blocks = line_blocks(s, at).0;
+    for i in blocks..s.len() {
+        if (s[i] == b'\n') | (s[i] == b'\r') {
             return Pos(i);
         }
-        i += 1;
     }
-    Pos(i)
+    Pos(blocks.max(s.len()))
 }

@@ -1,9 +1,9 @@
 // Trivia: classes of bytes, runs, comments, the items of trivia, and the call that lists them.
 #![tactic(auto)]
 
-ghost use Rattle.std.specs.Prelude.{◌≡◌, true, false, [], ◌∷◌, ◌+◌, ◌≤◌, ◌<◌, length, drop, get_or};
+ghost use Rattle.std.specs.Prelude.{◌≡◌, true, false, [], ◌∷◌, ◌+◌, ◌≤◌, ◌<◌, length, drop, get_or, position, nat_le};
 ghost use Rattle.std.proofs.Math.Option.{none};
-ghost use Rattle.reading.specs.Byte.{blank, digit, run, begins};
+ghost use Rattle.reading.specs.Byte.{digit, run, begins};
 ghost use Rattle.reading.specs.Rules.{trivia, multiline_trivia};
 ghost use Rattle.reading.specs.Table.{max_text, first_high};
 ghost use Rattle.reading.specs.Items.{trivia_items};
@@ -29,72 +29,52 @@ pub use kind::ItemKind;
 pub fn run_end(s: &[u8], at: Pos, class: Class, inside: bool) -> Pos
     ensures { result.0 ≡ at.0 + run (among (bit_of class) inside) (drop at.0 s.now) }
 {
-    let mut i = at.0;
-    while i < s.len() {
+    for i in at.0..s.len() {
         if !class.among(s[i], inside) {
             return Pos(i);
         }
-        i += 1;
     }
-    Pos(i)
+    Pos(at.0.max(s.len()))
 }
 
 // The end of the name that starts here, in which `also` may stand beside letters and digits; `at` where none does.
 pub fn name_end(s: &[u8], at: Pos, also: u8) -> Pos
     ensures { result.0 ≡ at.0 + name_run (starts also) (goes also) (drop at.0 s.now) }
 {
-    let mut i = at.0;
-    if s.len() <= i {
-        return at;
+    match s.get(at.0) {
+        Some(b) if b.is_ascii_alphabetic() | (*b == also) => {}
+        _ => return at,
     }
-    let b = s[i];
-    if !(class::letter(b) | (b == also)) {
-        return at;
-    }
-    i += 1;
-    while i < s.len() {
+    for i in at.0 + 1..s.len() {
         if !class::goes_on(s[i], also) {
             return Pos(i);
         }
-        i += 1;
     }
-    Pos(i)
+    Pos(s.len())
 }
 
 // The end of the digits that start here. Most often there is none, which the first byte tells.
 pub fn digits_end(s: &[u8], at: Pos) -> Pos
     ensures { result.0 ≡ at.0 + run digit (drop at.0 s.now) }
 {
-    let i = at.0;
-    if s.len() <= i {
-        return at;
+    match s.get(at.0) {
+        Some(b) if b.is_ascii_digit() => run_end(s, at, Class::Digit, true),
+        _ => at,
     }
-    if !class::digit(s[i]) {
-        return at;
-    }
-    run_end(s, at, Class::Digit, true)
 }
 
 // The byte stands here.
 pub fn byte_is(s: &[u8], at: Pos, b: u8) -> bool
     ensures { result ≡ begins (b ∷ []) (drop at.0 s.now) }
 {
-    let i = at.0;
-    if s.len() <= i {
-        return false;
-    }
-    b == s[i]
+    s.get(at.0) == Some(&b)
 }
 
 // The two bytes stand here.
 pub fn two_are(s: &[u8], at: Pos, a: u8, b: u8) -> bool
     ensures { result ≡ begins (a ∷ b ∷ []) (drop at.0 s.now) }
 {
-    let i = at.0;
-    if s.len() <= i {
-        return false;
-    }
-    (a == s[i]) & byte_is(s, Pos(i + 1), b)
+    byte_is(s, at, a) && byte_is(s, Pos(at.0 + 1), b)
 }
 
 // One item of trivia.
@@ -135,20 +115,6 @@ fn comment_item(s: &[u8], at: Pos) -> Option<Item>
     None
 }
 
-// The end of the blanks that go on here. Most often a blank stands alone, which the next byte tells.
-fn blanks_end(s: &[u8], at: Pos) -> Pos
-    ensures { result.0 ≡ at.0 + run blank (drop at.0 s.now) }
-{
-    let i = at.0;
-    if s.len() <= i {
-        return at;
-    }
-    if !class::blank(s[i]) {
-        return at;
-    }
-    run_end(s, at, Class::Blank, true)
-}
-
 // What starts here. Most bytes stand above the space and start nothing; they are answered first.
 pub fn trivia_item(s: &[u8], at: Pos) -> Option<Item>
     ensures { Starts s.now at.0 result }
@@ -159,35 +125,18 @@ pub fn trivia_item(s: &[u8], at: Pos) -> Option<Item>
     }
     let b = s[low];
     if b' ' < b {
-        if b == b'/' {
-            return comment_item(s, at);
-        }
-        return None;
+        return if b == b'/' { comment_item(s, at) } else { None };
     }
-    if class::blank(b) {
-        let end = blanks_end(s, Pos(low + 1));
-        return Some(Item {
-            kind: ItemKind::Whitespace,
-            end,
-        });
-    }
-    match b {
-        b'\n' => Some(Item {
-            kind: ItemKind::Newline,
-            end: Pos(low + 1),
-        }),
-        b'\r' => {
-            if byte_is(s, Pos(low + 1), b'\n') {
-                Some(Item {
-                    kind: ItemKind::Newline,
-                    end: Pos(low + 2),
-                })
-            } else {
-                None
-            }
-        }
-        _ => None,
-    }
+    let (kind, end) = match b {
+        b' ' | b'\t' => (
+            ItemKind::Whitespace,
+            run_end(s, Pos(low + 1), Class::Blank, true),
+        ),
+        b'\n' => (ItemKind::Newline, Pos(low + 1)),
+        b'\r' if byte_is(s, Pos(low + 1), b'\n') => (ItemKind::Newline, Pos(low + 2)),
+        _ => return None,
+    };
+    Some(Item { kind, end })
 }
 
 // One item after another, line ends too or not.
@@ -216,12 +165,11 @@ fn skip(s: &[u8], at: Pos, met: bool, lines: bool) -> Skip
 fn bare(s: &[u8], at: Pos, lines: bool) -> bool
     ensures { result ≡ true → Nothing lines s.now at.0 }
 {
-    let i = at.0;
-    if s.len() <= i {
-        return false;
+    match s.get(at.0) {
+        Some(b'\n') => !lines,
+        Some(b) => (b' ' < *b) & (*b != b'/'),
+        None => false,
     }
-    let b = s[i];
-    ((b == b'\n') & !lines) | ((b' ' < b) & (b != b'/'))
 }
 
 // Trivia of one line, as ws reads it; `met` is that an open comment was met before.
@@ -246,41 +194,21 @@ pub fn multiline_trivia(s: &[u8], at: Pos, met: bool) -> Skip
     skip(s, at, met, true)
 }
 
-// There is a byte of 128 or more. Every byte is looked at, so that the compiler compares many at once.
-fn any_high(s: &[u8]) -> bool
-    ensures { result ≡ false → none ≡ first_high 0 s.now }
-{
-    let mut found = false;
-    let mut i: usize = 0;
-    while i < s.len() {
-        found = found | (128 <= s[i]);
-        i += 1;
-    }
-    found
-}
-
-// Where the first byte of 128 or more stands.
+// Where the first byte of 128 or more stands. Most often there is none, which `is_ascii` tells many bytes at a time.
 pub fn first_high(s: &[u8]) -> Option<Pos>
     ensures { high_of result ≡ first_high 0 s.now }
 {
-    if !any_high(s) {
+    if s.is_ascii() {
         return None;
     }
-    high_byte(s)
+    let i = high_place(s)?;
+    Some(Pos(i))
 }
 
-// The same, byte by byte.
-fn high_byte(s: &[u8]) -> Option<Pos>
-    ensures { high_of result ≡ first_high 0 s.now }
+fn high_place(s: &[u8]) -> Option<usize>
+    ensures { result ≡ position (λ b. nat_le 128 b) s.now }
 {
-    let mut i: usize = 0;
-    while i < s.len() {
-        if 128 <= s[i] {
-            return Some(Pos(i));
-        }
-        i += 1;
-    }
-    None
+    s.iter().position(|b| 128 <= *b)
 }
 
 // An item's words in a table: kind, low, high.

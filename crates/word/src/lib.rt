@@ -30,16 +30,14 @@ pub fn begins(s: &[u8], at: Pos, word: &[u8]) -> bool
     requires { at.0 ≤ length s.now }
     ensures { result ≡ begins_no_case word.now (drop at.0 s.now) }
 {
-    let at = at.0;
-    if s.len() - at < word.len() {
+    let rest = &s[at.0..];
+    if rest.len() < word.len() {
         return false;
     }
-    let mut i = 0;
-    while i < word.len() {
-        if word[i] != lower(s[at + i]) {
+    for (i, b) in word.iter().enumerate() {
+        if *b != lower(rest[i]) {
             return false;
         }
-        i += 1;
     }
     true
 }

@@ -1,7 +1,8 @@
 -- A case for each answer: the tests that led to it are those of the definition.
 use mathlib.Core.Path.{ap, sym, ◌∙◌}
 use native.Mathlib.Omega.{arith}
-use Rattle.trivia.specs.Answers.{high_of}
+use Rattle.reading.specs.Table.{refused}
+use Rattle.trivia.specs.Answers.{high_of, listed}
 use Rattle.trivia.proofs.Outcome.{too_long, high_byte, no_item, no_room, counted, zeros_only, zeros_behind}
 use Rattle.trivia.proofs.items.Goals as goal
 
@@ -20,9 +21,9 @@ returns-then-end-text c =
 
 pub returns-then-table-n : goal.returns-then-table-n
 returns-then-table-n c =
-    rw (c.fill.ensures.after (λ y e. e), zeros_only)
-    (no_room _ _ c.if-text-gt-MAX_TEXT.false
-    (sym (ap high_of c.in_default.is) ∙ c.first_high.ensures) c.list_items-listing.ensures c.if-end-text.false c.if-table-n.true)
+    ap (listed (refused 12 c.list_items-listing.result.count)) (c.fill.ensures.after (λ y e. e) ∙ zeros_only c.args.table.now)
+    ∙ no_room _ _ c.if-text-gt-MAX_TEXT.false
+    (sym (ap high_of c.in_default.is) ∙ c.first_high.ensures) c.list_items-listing.ensures c.if-end-text.false c.if-table-n.true
 
 pub returns : goal.returns
 returns c =

@@ -7,7 +7,4 @@ use Rattle.trivia.specs.Class.{goes}
 use Rattle.trivia.proofs.name_end.Given as goal
 
 abbrev pub invariant-loop-i : goal.invariant-loop-i
-invariant-loop-i l = l.initial.i + run (goes l.also) (drop l.initial.i l.s) ≡ l.i + run (goes l.also) (drop l.i l.s)
-
-abbrev pub decreases-loop-i : goal.decreases-loop-i
-decreases-loop-i l = length l.s - l.i
+invariant-loop-i l = (l.fn.at.0 + 1) + run (goes l.also) (drop (l.fn.at.0 + 1) l.s) ≡ l.i + run (goes l.also) (drop l.i l.s)

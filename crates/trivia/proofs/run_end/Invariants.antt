@@ -7,7 +7,4 @@ use Rattle.trivia.specs.Class.{bit_of, among}
 use Rattle.trivia.proofs.run_end.Given as goal
 
 abbrev pub invariant-loop-i : goal.invariant-loop-i
-invariant-loop-i l = l.initial.i + run (among (bit_of l.class) l.inside) (drop l.initial.i l.s) ≡ l.i + run (among (bit_of l.class) l.inside) (drop l.i l.s)
-
-abbrev pub decreases-loop-i : goal.decreases-loop-i
-decreases-loop-i l = length l.s - l.i
+invariant-loop-i l = l.fn.at.0 + run (among (bit_of l.class) l.inside) (drop l.fn.at.0 l.s) ≡ l.i + run (among (bit_of l.class) l.inside) (drop l.i l.s)

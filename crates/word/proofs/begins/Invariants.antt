@@ -6,7 +6,4 @@ use Rattle.reading.specs.Byte.{begins_no_case}
 use Rattle.word.proofs.begins.Given as goal
 
 abbrev pub invariant-loop-i : goal.invariant-loop-i
-invariant-loop-i l = (l.i ≤ length l.word) × (begins_no_case l.word (drop l.at l.s) ≡ begins_no_case (drop l.i l.word) (drop (l.at + l.i) l.s))
-
-abbrev pub decreases-loop-i : goal.decreases-loop-i
-decreases-loop-i l = length l.word - l.i
+invariant-loop-i l = begins_no_case l.word l.rest ≡ begins_no_case (drop l.i l.word) (drop l.i l.rest)

@@ -5,8 +5,5 @@ use Prim.Native.Nat.{◌+◌, ◌-◌, ◌≤◌}
 use Rattle.trivia.specs.Piece.{closes_at, Clear}
 use Rattle.trivia.proofs.comment.block_closes.Given as goal
 
-abbrev pub invariant-loop-j : goal.invariant-loop-j
-invariant-loop-j l = (l.j ≤ 64) × (l.found ≡ false → Clear (closes_at l.s) l.at.0 (l.at.0 + l.j))
-
-abbrev pub decreases-loop-j : goal.decreases-loop-j
-decreases-loop-j l = 64 - l.j
+abbrev pub invariant-loop-i : goal.invariant-loop-i
+invariant-loop-i l = l.found ≡ false → Clear (closes_at l.s) l.fn.at.0 l.i

@@ -2,5 +2,5 @@
 use Rattle.trivia.proofs.Clear.{unmarked_open}
 use Rattle.trivia.proofs.comment.c_comment.Goals as goal
 
-pub returns : goal.returns
-returns c = unmarked_open _ _ (c.closes.ensures c.if-closes.false)
+pub returns-else-closes : goal.returns-else-closes
+returns-else-closes c = unmarked_open _ _ (c.closes.ensures c.if-closes.false)

@@ -6,6 +6,3 @@ use Rattle.trivia.proofs.comment.closes.Given as goal
 
 abbrev pub invariant-loop-i : goal.invariant-loop-i
 invariant-loop-i l = Clear (closes_at l.s) l.initial.i l.i
-
-abbrev pub decreases-loop-i : goal.decreases-loop-i
-decreases-loop-i l = length l.s - l.i

@@ -4,4 +4,4 @@ use Rattle.trivia.proofs.Clear.{line_over}
 use Rattle.trivia.proofs.comment.line_blocks.Goals as goal
 
 pub loop-i-preserved : goal.loop-i-preserved
-loop-i-preserved c = c.loop-i.invariant ∙ line_over _ _ (omega arith) (c.block_has.ensures c.if-block_has.false)
+loop-i-preserved c = c.loop-i.invariant ∙ line_over _ _ (omega arith) (c.block_has.ensures c.if-not-block_has.true)

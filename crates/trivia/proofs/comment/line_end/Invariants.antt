@@ -7,7 +7,4 @@ use Rattle.trivia.specs.Class.{in_line}
 use Rattle.trivia.proofs.comment.line_end.Given as goal
 
 abbrev pub invariant-loop-i : goal.invariant-loop-i
-invariant-loop-i l = l.initial.i + run in_line (drop l.initial.i l.s) ≡ l.i + run in_line (drop l.i l.s)
-
-abbrev pub decreases-loop-i : goal.decreases-loop-i
-decreases-loop-i l = length l.s - l.i
+invariant-loop-i l = l.blocks + run in_line (drop l.blocks l.s) ≡ l.i + run in_line (drop l.i l.s)
