@@ -1,7 +1,7 @@
 // What several programs print.
 #![tactic(auto)]
 
-use parser::Answer;
+use parser::{Answer, Reading};
 use reading::Refusal;
 use std::io;
 use std::io::Write;
@@ -21,18 +21,26 @@ pub fn refusal(out: &mut impl Write, refusal: &impl Refusal) -> io::Result<()> {
     refused(out, refusal.number() as usize, refusal.gives())
 }
 
+// The reading, or the refusal's number and what it gives.
+pub fn outcome(a: Answer) -> Result<Reading, (usize, usize)> {
+    match a {
+        Answer::Read(x) => Ok(x),
+        Answer::TooLong(n) => Err((1, n)),
+        Answer::HighByte(n) => Err((2, n)),
+        Answer::ScopeTooLarge(n) => Err((3, n)),
+        Answer::LevelTooLarge(n) => Err((4, n)),
+        Answer::TooDeep(n) => Err((5, n)),
+        Answer::NoRoomForRows(n) => Err((6, n)),
+        Answer::NoRoomForErrors(n) => Err((7, n)),
+        Answer::NoRoomForRequests(n) => Err((8, n)),
+    }
+}
+
 // The refusal of a text that is not read.
 pub fn not_read(out: &mut impl Write, a: Answer) -> io::Result<()> {
-    match a {
-        Answer::Read(_) => Ok(()),
-        Answer::TooLong(n) => refused(out, 1, n),
-        Answer::HighByte(n) => refused(out, 2, n),
-        Answer::ScopeTooLarge(n) => refused(out, 3, n),
-        Answer::LevelTooLarge(n) => refused(out, 4, n),
-        Answer::TooDeep(n) => refused(out, 5, n),
-        Answer::NoRoomForRows(n) => refused(out, 6, n),
-        Answer::NoRoomForErrors(n) => refused(out, 7, n),
-        Answer::NoRoomForRequests(n) => refused(out, 8, n),
+    match outcome(a) {
+        Ok(_) => Ok(()),
+        Err((number, gives)) => refused(out, number, gives),
     }
 }
 
