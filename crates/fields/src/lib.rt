@@ -87,7 +87,7 @@ pub fn put(text: &mut [u8], at: usize, times: usize, byte: u8) -> usize
 }
 
 // A digit's value; the hexadecimal ones are in lower case. 0 where it is none.
-fn digit(b: u8) -> u8
+pub fn digit(b: u8) -> u8
     ensures { result < 16 }
 {
     match b {
@@ -97,9 +97,12 @@ fn digit(b: u8) -> u8
     }
 }
 
-// Puts the bytes of pairs of hexadecimal digits into the text, as far as there is room.
-pub fn put_hex(text: &mut [u8], digits: &[u8]) {
+// Puts the bytes of pairs of hexadecimal digits into the text, as far as there is room; how many.
+pub fn put_hex(text: &mut [u8], digits: &[u8]) -> usize
+    ensures { result ≤ length text.old }
+{
     for (byte, pair) in text.iter_mut().zip(digits.chunks_exact(2)) {
         *byte = digit(pair[0]) * 16 + digit(pair[1]);
     }
+    text.len().min(digits.len() / 2)
 }
