@@ -3,9 +3,7 @@
 // differ.
 #![tactic(auto)]
 
-ghost use Rattle.std.specs.Prelude.{◌≤◌, ◌<◌, length};
-
-use output::Tally;
+use fields::Fields;
 use parser::Answer;
 use rows::Counted;
 use share::{SharesAnswer, TextAnswer};
@@ -16,7 +14,7 @@ use table::{ERROR, REQUEST, ROW};
 // The longest input; what lies behind it is not read.
 const LONGEST: u64 = 65536;
 
-// The outcome that is expected of a list, how many words it has, and the place of its texts.
+// The outcome that is expected of a list, and how many words it has.
 #[derive(Clone, Copy)]
 struct Expected {
     refusal: usize,
@@ -28,64 +26,31 @@ struct Expected {
     second: usize,
     third: usize,
     words: usize,
-    next: usize,
 }
 
 fn main(rt: HostRuntime) -> io::Result<()> {
     let mut out = BufWriter::new(rt.alloc(), io::writer(&rt))?;
     let mut input = Vec::new(rt.alloc());
     rt.reader().take(LONGEST).read_to_end(&mut input)?;
-    lines(&mut out, &input)?;
+    output::replay(&mut out, &input, case)?;
     out.flush()
 }
 
-fn lines(out: &mut impl Write, input: &[u8]) -> io::Result<()> {
-    let mut tally = output::no_cases();
-    let mut at: usize = 0;
-    while at < input.len() {
-        let next = fields::behind(input, at, b'\n');
-        tally = line(out, input, at, next, tally)?;
-        at = next;
-    }
-    Ok(())
-}
-
-// A case; or the name of the cases before it, behind a `#`.
-fn line(
-    out: &mut impl Write,
-    input: &[u8],
-    at: usize,
-    next: usize,
-    tally: Tally,
-) -> io::Result<Tally>
-    requires { (at < next) × (next ≤ length input.now) }
-{
-    if input[at] == b'#' {
-        return output::named(out, tally, &input[at + 1..next]);
-    }
-    let same = case(input, at, next);
-    output::counted(out, tally, at, same)
-}
-
 // A list of texts is 0, a text is 1.
-fn case(input: &[u8], at: usize, next: usize) -> bool
-    requires { next ≤ length input.now }
-{
+fn case(line: &[u8]) -> bool {
     let mut words = [0u32; 2048];
     let mut bytes = [0u8; 256];
-    let kind = fields::field(input, at);
-    if kind.value == 0 {
-        return list(input, kind.next, next, &mut words);
+    let mut fields = Fields::new(line);
+    if fields.number() == 0 {
+        return list(&mut fields, &mut words);
     }
-    text(input, kind.next, next, &mut bytes)
+    text(&mut fields, &mut bytes)
 }
 
-fn list(input: &[u8], at: usize, next: usize, words: &mut [u32]) -> bool
-    requires { next ≤ length input.now }
-{
-    let e = expected_of(input, at);
+fn list(fields: &mut Fields, words: &mut [u32]) -> bool {
+    let e = expected_of(fields);
     let n = e.words;
-    let end = texts(input, e.next, next, words);
+    let end = texts(fields, words);
     if end < n {
         return false;
     }
@@ -112,48 +77,28 @@ fn as_expected(e: Expected, r: SharesAnswer) -> bool {
     }
 }
 
-fn expected_of(input: &[u8], at: usize) -> Expected {
-    let refusal = fields::field(input, at);
-    let given = fields::field(input, refusal.next);
-    let numerator = fields::field(input, given.next);
-    let denominator = fields::field(input, numerator.next);
-    let count = fields::field(input, denominator.next);
-    let first = fields::field(input, count.next);
-    let second = fields::field(input, first.next);
-    let third = fields::field(input, second.next);
-    let words = fields::field(input, third.next);
+fn expected_of(fields: &mut Fields) -> Expected {
     Expected {
-        refusal: refusal.value,
-        given: given.value,
-        numerator: numerator.value,
-        denominator: denominator.value,
-        count: count.value,
-        first: first.value,
-        second: second.value,
-        third: third.value,
-        words: words.value,
-        next: words.next,
+        refusal: fields.number(),
+        given: fields.number(),
+        numerator: fields.number(),
+        denominator: fields.number(),
+        count: fields.number(),
+        first: fields.number(),
+        second: fields.number(),
+        third: fields.number(),
+        words: fields.number(),
     }
 }
 
-// Puts the texts of a line into the list; the place behind them. A run is how often a text comes, its trivia and its length.
-fn texts(input: &[u8], from: usize, next: usize, words: &mut [u32]) -> usize
-    requires { next ≤ length input.now }
-{
-    let mut at = from;
+// Puts the texts that are left of a line into the list; the place behind them. A run is how often a text comes, its trivia and its length.
+fn texts(fields: &mut Fields, words: &mut [u32]) -> usize {
     let mut end: usize = 0;
-    while at < next {
-        let times = fields::field(input, at);
-        let trivia = fields::field(input, times.next);
-        let length = fields::field(input, trivia.next);
-        end = put(
-            words,
-            end,
-            times.value,
-            word(trivia.value),
-            word(length.value),
-        );
-        at = length.next;
+    while !fields.is_empty() {
+        let times = fields.number();
+        let trivia = word(fields.number());
+        let length = word(fields.number());
+        end = put(words, end, times, trivia, length);
     }
     end
 }
@@ -181,13 +126,11 @@ fn put(words: &mut [u32], at: usize, times: usize, trivia: u32, length: u32) -> 
     i
 }
 
-fn text(input: &[u8], at: usize, next: usize, bytes: &mut [u8]) -> bool
-    requires { next ≤ length input.now }
-{
-    let trivia = fields::field(input, at);
-    let length = fields::field(input, trivia.next);
-    let n = fields::runs(input, length.next, next, bytes, 0);
-    read(&bytes[..n], trivia.value, length.value)
+fn text(fields: &mut Fields, bytes: &mut [u8]) -> bool {
+    let trivia = fields.number();
+    let length = fields.number();
+    let n = fields.runs(bytes, 0);
+    read(&bytes[..n], trivia, length)
 }
 
 // The two words from the text's reading.
