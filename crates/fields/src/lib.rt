@@ -22,7 +22,7 @@ impl<'a> Model for Fields<'a> {
 
 impl<'a> Fields<'a> {
     pub fn new(line: &'a [u8]) -> Fields<'a>
-        ensures { length result ≤ length line.now }
+        ensures { result ≡ line.now }
     {
         Fields { rest: line }
     }
