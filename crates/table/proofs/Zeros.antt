@@ -1,5 +1,5 @@
 -- Words that are written at once: zeros, and a record.
-use Rattle.std.proofs.Common.{◌≡◌, refl, ap, sym, ◌∙◌, List, ◌∷◌, ◌++◌, ℕ, zero, suc, ◌+◌, ◌*◌, ◌-◌, ◌≤◌, ◌<◌, length, take, drop, replicate, append-nil, arith}
+use Rattle.std.proofs.Common.{◌≡◌, refl, ap, sym, ◌∙◌, List, ◌∷◌, ◌++◌, ℕ, zero, suc, ◌+◌, ◌*◌, ◌-◌, ◌≤◌, ◌<◌, length, take, drop, replicate, append-nil, append_assoc, arith}
 use Rattle.std.proofs.lemmas.List.{drop-drop, drop_all, length-drop}
 use Rattle.std.proofs.lemmas.List.Edits.{sets-eq}
 use borrow.Rule.Slice.PartMut.{put_mid}
@@ -24,4 +24,4 @@ pub copied : (t ws v : List ℕ) (n w k : ℕ) → length ws ≡ w → k ≡ w �
 unfolding pushed
 copied t ws v n w k e f g h =
     rw (lt-ltb n (room w t) h, g, f, drop-drop w (n * w) t, ← e)
-    (sym (sets-eq ws t (n * length ws) (omega (arith, in_room w t n h))))
+    (sym (append_assoc (take (n * length ws) t) ws _) ∙ sym (sets-eq ws t (n * length ws) (omega (arith, in_room (length ws) t n (rw e h)))))

@@ -6,7 +6,7 @@ use Rattle.table.proofs.Zeros.{copied}
 use Rattle.table.proofs.push.Goals as goal
 
 pub returns-then-n-table : goal.returns-then-n-table
-returns-then-n-table g c = copied _ _ _ _ _ _ ? (omega arith) c.copy_from_slice.ensures.after c.if-n-table.true
+returns-then-n-table g c = copied _ _ _ _ _ _ c.told-words (omega arith) c.copy_from_slice.ensures.after c.if-n-table.true
 
 pub returns-else-n-table : goal.returns-else-n-table
 unfolding pushed
