@@ -9,7 +9,7 @@ use Rattle.reading.specs.Table.{zeros, room}
 use Rattle.table.specs.Words.{pushed}
 use Rattle.table.proofs.Holds.{in_room}
 
-zeros_are : (n : ℕ) → replicate n 0 ≡ zeros n
+pub zeros_are : (n : ℕ) → replicate n 0 ≡ zeros n
 zeros_are zero = refl
 zeros_are (suc n) = ap (0 ∷◌) (zeros_are n)
 
