@@ -10,8 +10,7 @@ use Rattle.line.proofs.number.Given as goal
 
 abbrev pub invariant-loop-n : goal.invariant-loop-n
 invariant-loop-n l =
-    (l.n ≤ l.count) × (length l.rows ≡ length l.initial.rows) × On l.text l.here × (l.rows ≡ lined l.text l.initial.rows l.n) × (l.end ≤ l.count)
-    × (l.end ≤ room row_width l.initial.rows) × ((l.count ≤ l.end) ⊎ (room row_width l.initial.rows ≤ l.end))
+    (l.n ≤ l.count) × (length l.rows ≡ length l.initial.rows) × On l.text l.here × (l.rows ≡ lined l.text l.initial.rows l.n)
 
 abbrev pub decreases-loop-n : goal.decreases-loop-n
 decreases-loop-n l = l.end - l.n
