@@ -1,8 +1,6 @@
-use mathlib.Core.Path.{◌≡◌, refl, ap, sym, subst, ◌∙◌}
+use mathlib.Core.Path.{refl, ap, sym, subst, ◌∙◌}
 use native.Mathlib.Omega.{arith}
 use lib.ListN.{length}
-use Rattle.reading.specs.Table.{row_width, room}
-use Rattle.line.specs.Lines.{lined}
 use Rattle.line.specs.Marks.{On}
 use Rattle.line.proofs.Fills.{lined_length, numbered_so, numbered_same, lined_more, lined_reached}
 use Rattle.line.proofs.Stretches.{reaches_as}

@@ -1,9 +1,7 @@
 -- The invariant: the rows before row n have their lines, and the stretch has its line.
 use mathlib.Core.Path.{◌≡◌}
-use mathlib.Core.Logic.{◌⊎◌}
 use Prim.Native.Nat.{◌-◌, ◌≤◌}
 use lib.ListN.{length}
-use Rattle.reading.specs.Table.{row_width, room}
 use Rattle.line.specs.Lines.{lined}
 use Rattle.line.specs.Marks.{On}
 use Rattle.line.proofs.number.Given as goal
