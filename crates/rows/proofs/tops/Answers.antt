@@ -1,7 +1,7 @@
 -- A case for each answer: the tests that led to it are those of the definition.
 use Rattle.std.proofs.Common.{◌≤◌, length, arith}
 use Rattle.std.proofs.lemmas.Result.{err_from_is_err_and}
-use Rattle.table.proofs.Zeros.{zeroed}
+use Rattle.table.proofs.Zeros.{zeroed_part}
 use Rattle.rows.proofs.Turns.{no_subtree, no_room, all_listed}
 use Rattle.rows.proofs.tops.Goals as goal
 
@@ -16,4 +16,4 @@ returns-then-roots-n c = no_room _ _ _ _ _ (c.fill.ensures.after (λ y e. e)) c.
 pub returns : goal.returns
 returns c =
     let h : c.in_ok-n.n ≤ length c.fill-2.new.roots = omega arith in
-    rw (zeroed _ _ _ h (c.fill-3.ensures.after (λ y e. e))) (all_listed _ _ _ _ c.if-roots-n.false _ c.fill-2.auto.roots c.fill-2.ensures)
+    rw (zeroed_part _ _ _ h (c.fill-3.ensures.after (λ y e. e))) (all_listed _ _ _ _ c.if-roots-n.false _ c.fill-2.auto.roots c.fill-2.ensures)
