@@ -10,7 +10,6 @@ ghost use Rattle.number.specs.Part.{part_of};
 use number::{NumberType, ValueError};
 use parser::Answer;
 use reading::Refusal;
-use rows::TopsAnswer;
 use std::io;
 use std::io::{BufWriter, Read, Write};
 use table::{ERROR, Kind, REQUEST, ROW, column};
@@ -39,11 +38,9 @@ fn import(out: &mut impl Write, text: &[u8]) -> io::Result<()> {
 // Room for 65,537 top rows, one for each byte and the Eof.
 fn top_rows(out: &mut impl Write, text: &[u8], words: &[u32], count: usize) -> io::Result<()> {
     let mut roots = [0usize; 65537];
-    let r = rows::tops(words, count, &mut roots);
-    match r {
-        TopsAnswer::Count(n) => lines(out, text, words, &roots, n),
-        TopsAnswer::NoSubtree(at) => output::refused(out, 13, at),
-        TopsAnswer::NoRoom(n) => output::refused(out, 6, n),
+    match rows::tops(words, count, &mut roots) {
+        Ok(n) => lines(out, text, words, &roots, n),
+        Err(e) => output::refusal(out, &e),
     }
 }
 

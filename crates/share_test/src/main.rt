@@ -5,8 +5,9 @@
 
 use fields::Fields;
 use parser::Answer;
-use rows::Counted;
-use share::{SharesAnswer, TextAnswer};
+use reading::Refusal;
+use rows::TopsError;
+use share::{Fraction, Largest, SharesError, SharesFound, TextWords, WordsError};
 use std::io;
 use std::io::{BufWriter, Read, Write};
 use table::{ERROR, REQUEST, ROW};
@@ -19,12 +20,7 @@ const LONGEST: u64 = 65536;
 struct Expected {
     refusal: usize,
     given: usize,
-    numerator: usize,
-    denominator: usize,
-    count: usize,
-    first: usize,
-    second: usize,
-    third: usize,
+    found: SharesFound,
     words: usize,
 }
 
@@ -51,29 +47,16 @@ fn list(fields: &mut Fields, words: &mut [u32]) -> bool {
     let e = expected_of(fields);
     let n = e.words;
     let end = texts(fields, words);
-    if end < n {
+    if end < n || words.len() < n {
         return false;
     }
-    if words.len() < n {
-        return false;
-    }
-    let r = share::shares(&words[..n]);
-    as_expected(e, r)
+    as_expected(e, share::shares(&words[..n]))
 }
 
-fn as_expected(e: Expected, r: SharesAnswer) -> bool {
+fn as_expected(e: Expected, r: Result<SharesFound, SharesError>) -> bool {
     match r {
-        SharesAnswer::Found(x) => {
-            (e.refusal == 0)
-                & (e.numerator as u64 == x.numerator)
-                & (e.denominator as u64 == x.denominator)
-                & (e.count == x.count)
-                & (e.first == x.first)
-                & (e.second == x.second)
-                & (e.third == x.third)
-        }
-        SharesAnswer::TooManyTexts(n) => (e.refusal == 27) & (e.given == n),
-        SharesAnswer::WrongText(i) => (e.refusal == 28) & (e.given == i),
+        Ok(x) => e.refusal == 0 && e.found == x,
+        Err(x) => e.refusal == x.number() as usize && e.given == x.gives(),
     }
 }
 
@@ -81,12 +64,18 @@ fn expected_of(fields: &mut Fields) -> Expected {
     Expected {
         refusal: fields.number(),
         given: fields.number(),
-        numerator: fields.number(),
-        denominator: fields.number(),
-        count: fields.number(),
-        first: fields.number(),
-        second: fields.number(),
-        third: fields.number(),
+        found: SharesFound {
+            pooled: Fraction {
+                numerator: fields.number() as u64,
+                denominator: fields.number() as u64,
+            },
+            largest: Largest {
+                count: fields.number(),
+                first: fields.number(),
+                second: fields.number(),
+                third: fields.number(),
+            },
+        },
         words: fields.number(),
     }
 }
@@ -110,17 +99,12 @@ fn word(n: usize) -> u32 {
 // Puts so many of a text into the list from a place on, as far as there is room; the place behind them.
 fn put(words: &mut [u32], at: usize, times: usize, trivia: u32, length: u32) -> usize {
     let mut i = at;
-    let mut left = times;
-    while i < words.len() {
-        if left == 0 {
-            break;
-        }
-        if words.len() - i < 2 {
+    for _ in 0..times {
+        if words.len() <= i || words.len() - i < 2 {
             break;
         }
         words[i] = trivia;
         words[i + 1] = length;
-        left -= 1;
         i += 2;
     }
     i
@@ -155,8 +139,7 @@ fn words(
     length: usize,
     roots: &mut [usize],
 ) -> bool {
-    let counted = rows::top_count(rows, count);
-    let Counted::Tops(n) = counted else {
+    let Ok(n) = rows::top_count(rows, count) else {
         return false;
     };
     if n == 0 {
@@ -164,31 +147,23 @@ fn words(
     }
     let a = within(text, rows, count, roots, n);
     let b = within(text, rows, count, roots, n - 1);
-    answered(a, trivia, length) & no_room(b, n)
+    answered(a, trivia, length) && b == Err(WordsError::Tops(TopsError::NoRoom(n)))
 }
 
 // Lends so many words for the top rows.
-fn within(text: &[u8], rows: &[u32], count: usize, roots: &mut [usize], n: usize) -> TextAnswer {
+fn within(
+    text: &[u8],
+    rows: &[u32],
+    count: usize,
+    roots: &mut [usize],
+    n: usize,
+) -> Result<TextWords, WordsError> {
     if roots.len() < n {
-        return TextAnswer::WrongText;
+        return Err(WordsError::WrongText);
     }
     share::text_words(text, rows, count, &mut roots[..n])
 }
 
-fn answered(a: TextAnswer, trivia: usize, length: usize) -> bool {
-    let TextAnswer::Words(x) = a else {
-        return false;
-    };
-    (wide(x.trivia) == trivia) & (wide(x.length) == length)
-}
-
-fn no_room(a: TextAnswer, n: usize) -> bool {
-    let TextAnswer::NoRoom(need) = a else {
-        return false;
-    };
-    need == n
-}
-
-fn wide(x: u32) -> usize {
-    x as usize
+fn answered(a: Result<TextWords, WordsError>, trivia: usize, length: usize) -> bool {
+    a.is_ok_and(|x| x.trivia as usize == trivia && x.length as usize == length)
 }
