@@ -110,7 +110,10 @@ fn value_numbers_of(valued: Result<u64, ValueError>) -> ValueNumbers
 {
     match valued {
         Ok(value) => ValueNumbers { code: 0, value },
-        Err(e) => ValueNumbers { code: e.number(), value: 0 },
+        Err(e) => ValueNumbers {
+            code: e.number(),
+            value: 0,
+        },
     }
 }
 
