@@ -13,7 +13,7 @@ const LONGEST: usize = 8192;
 fn main(rt: HostRuntime) -> io::Result<()> {
     let mut out = BufWriter::new(rt.alloc(), io::writer(&rt))?;
     let mut text = Vec::new(rt.alloc());
-    rt.reader().take(8193).read_to_end(&mut text)?;
+    rt.reader().take(LONGEST as u64 + 1).read_to_end(&mut text)?;
     if LONGEST < text.len() {
         output::refused(&mut out, 1, LONGEST)?;
     } else {

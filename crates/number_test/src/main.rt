@@ -100,7 +100,10 @@ fn read(e: Expected, text: &[u8]) -> bool {
 }
 
 fn numbers(rows: &[[u32; ROW]], count: usize) -> usize {
-    rows.iter().take(count).filter(|row| row[column::KIND] == Kind::NumberText.number()).count()
+    rows.iter()
+        .take(count)
+        .filter(|row| row[column::KIND] == Kind::NumberText.number())
+        .count()
 }
 
 // The row has the part's places, and the one before it the number's type.

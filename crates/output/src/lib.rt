@@ -64,7 +64,11 @@ impl Tally {
 
 // Replays an input, of which each line is a case or, behind a `#`, the name of the cases before it. Printed are the place of each case that is not
 // the same, and for each name how many are equal and how many differ.
-pub fn replay<F: FnMut(&[u8]) -> bool>(out: &mut impl Write, input: &[u8], mut is_same: F) -> io::Result<()>
+pub fn replay<F: FnMut(&[u8]) -> bool>(
+    out: &mut impl Write,
+    input: &[u8],
+    mut is_same: F,
+) -> io::Result<()>
     requires { F.IsAlwaysCallable is_same }
 {
     let mut tally = Tally::default();

@@ -143,13 +143,7 @@ fn read(fields: &mut Fields, text: &[u8], start: Start, room: Room) -> bool {
 }
 
 // Refusals 1 to 4 leave the tables, 5 to 8 zero them.
-fn compare(
-    fields: &mut Fields,
-    a: Answer,
-    rows: &[u32],
-    errors: &[u32],
-    requests: &[u32],
-) -> bool {
+fn compare(fields: &mut Fields, a: Answer, rows: &[u32], errors: &[u32], requests: &[u32]) -> bool {
     match output::outcome(a) {
         Ok(x) => answered(fields, x, rows, errors, requests),
         Err((number, gives)) => {
