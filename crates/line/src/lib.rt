@@ -5,7 +5,7 @@
 // ask of that row only that it has its line.
 #![tactic(auto)]
 
-ghost use Rattle.std.specs.Prelude.{◌≡◌, List, ℕ, ◌+◌, ◌^◌, ◌≤◌, ◌<◌, length};
+ghost use Rattle.std.specs.Prelude.{◌≡◌, List, ℕ, ◌+◌, ◌^◌, ◌≤◌, ◌<◌, length, IfSome};
 ghost use Rattle.reading.specs.Table.{max_text, row_width, room, line};
 ghost use Rattle.line.specs.Lines.{Level, Numbered, lined};
 ghost use Rattle.line.specs.Marks.{On, Marked};
@@ -51,7 +51,7 @@ fn feeds_near(text: &[u8], from: usize, to: usize) -> u8
     n
 }
 
-// The line feeds from one place to another.
+// The line feeds from one place to another. A turn takes up to RUN bytes, so this is no `for`.
 fn line_feeds(text: &[u8], from: usize, to: usize) -> u32
     requires { (length text.now ≤ max_text) × (from ≤ to) }
     ensures { line text.now from + result ≡ line text.now to }
@@ -156,34 +156,38 @@ fn first_row(rows: &[u32], count: usize) -> usize {
     table::walk(rows, count).map_or(count, |s| s.before)
 }
 
-// The first child of row n, whose subtree begins with row `first`. Each row is passed by no row but its parent.
-fn first_child(rows: &[u32], n: usize, first: usize) -> usize {
+// The first child of row n, whose subtree begins with row `first`. Each row is passed by no row but its parent. A turn goes back by a subtree, so
+// this is no `for`.
+fn first_child(rows: &[u32], n: usize, first: usize) -> Option<usize>
+    ensures { IfSome result (λ k. k < n) }
+{
     let mut c = n;
     while first < c {
         let before = first_row(rows, c);
         if before <= first {
-            return c - 1;
+            return Some(c - 1);
         }
         if c <= before {
-            return n;
+            return None;
         }
         c = before;
     }
-    n
+    None
 }
 
-// A row before row n from which its line is soon counted, or n. A row with no subtree that goes back is a closing brace that was supplied: the row
-// behind it is its block's, which begins with the brace that it copies.
-fn near(rows: &[u32], n: usize, low: usize) -> usize
+// A row before row n from which its line is soon counted. A row with no subtree that goes back is a closing brace that was supplied: the row behind
+// it is its block's, which begins with the brace that it copies.
+fn near(rows: &[u32], n: usize, low: usize) -> Option<usize>
     requires { n < room row_width rows.now }
+    ensures { IfSome result (λ k. k < n) }
 {
     let own = first_row(rows, n + 1);
     let first = if own < n { own } else { first_row(rows, n + 2) };
     if n <= first {
-        return n;
+        return None;
     }
     if rows[first * table::ROW + column::LOW] as usize == low {
-        return first;
+        return Some(first);
     }
     first_child(rows, n, first)
 }
@@ -207,17 +211,15 @@ fn line_of(text: &[u8], rows: &[u32], n: usize, low: usize, here: Stretch) -> u3
     if here.from <= low {
         return here.line;
     }
-    let k = near(rows, n, low);
-    let mark = if k < n {
-        Mark {
+    let mark = match near(rows, n, low) {
+        Some(k) => Mark {
             at: rows[k * table::ROW + column::LOW] as usize,
             line: rows[k * table::ROW + column::LINE],
-        }
-    } else {
-        Mark {
+        },
+        None => Mark {
             at: here.from,
             line: here.line,
-        }
+        },
     };
     line_from(text, mark, low)
 }
@@ -249,7 +251,7 @@ pub fn start(text: &[u8]) -> Stretch
 }
 
 // Fills in the lines of the rows up to `count`, as far as there is room. The first ones have theirs; `reached` is the stretch to which the pass has
-// come, and the answer the one to which it comes.
+// come, and the answer the one to which it comes. A turn takes as many rows as begin on the stretch, so this is no `for`.
 pub fn number(
     text: &[u8],
     rows: &mut [u32],
