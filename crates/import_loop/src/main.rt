@@ -2,18 +2,17 @@
 // digits stand, in the table's own bytes; one that has no value is printed as its refusal, with its place.
 #![tactic(auto)]
 
-ghost use Rattle.std.specs.Prelude.{◌≡◌, ◌/◌, ◌≤◌, ◌<◌, length};
+ghost use Rattle.std.specs.Prelude.{◌≡◌, ◌≤◌, length, IfSome};
 ghost use Rattle.reading.specs.Number.{number_value};
-ghost use Rattle.reading.specs.Table.{row_width};
 ghost use Rattle.number.specs.Answers.{base_of, told};
 ghost use Rattle.number.specs.Part.{part_of};
 
-use number::{NumberType, Typed, Valued};
+use number::{NumberType, ValueError};
 use parser::Answer;
-use rows::TopsAnswer;
+use reading::Refusal;
 use std::io;
 use std::io::{BufWriter, Read, Write};
-use table::{ERROR, REQUEST, ROW, column, kind};
+use table::{ERROR, Kind, REQUEST, ROW, column};
 
 // One byte more than the longest text is read: of a longer table the refusal gives 65,537 as its length.
 fn main(rt: HostRuntime) -> io::Result<()> {
@@ -39,15 +38,13 @@ fn import(out: &mut impl Write, text: &[u8]) -> io::Result<()> {
 // Room for 65,537 top rows, one for each byte and the Eof.
 fn top_rows(out: &mut impl Write, text: &[u8], words: &[u32], count: usize) -> io::Result<()> {
     let mut roots = [0usize; 65537];
-    let r = rows::tops(words, count, &mut roots);
-    match r {
-        TopsAnswer::Count(n) => lines(out, text, words, &roots, n),
-        TopsAnswer::NoSubtree(at) => output::refused(out, 13, at),
-        TopsAnswer::NoRoom(n) => output::refused(out, 6, n),
+    match rows::tops(words, count, &mut roots) {
+        Ok(n) => lines(out, text, words, &roots, n),
+        Err(e) => output::refusal(out, &e),
     }
 }
 
-// A line for each top row. Its subtree begins behind the one before.
+// A line for each of so many top rows. Its subtree begins behind the one before.
 fn lines(
     out: &mut impl Write,
     text: &[u8],
@@ -55,98 +52,71 @@ fn lines(
     roots: &[usize],
     n: usize,
 ) -> io::Result<()> {
-    let mut i: usize = 0;
+    let (rows, _) = words.as_chunks::<ROW>();
     let mut first: usize = 0;
-    while i < roots.len() {
-        if n <= i {
-            return Ok(());
+    for (i, &root) in roots.iter().enumerate().take(n) {
+        let line = i + 1;
+        write!(out, "row {line}:")?;
+        if let Some(subtree) = rows.get(first..=root) {
+            numbers(out, text, subtree)?;
         }
-        output::number(out, b"row ", i + 1)?;
-        out.write_all(b":")?;
-        first = numbers(out, text, words, first, roots[i])?;
-        out.write_all(b"\n")?;
-        i += 1;
+        writeln!(out)?;
+        first = root.saturating_add(1);
     }
     Ok(())
 }
 
-// The numbers of a subtree, from its first row to its root; the row behind it.
-fn numbers(
-    out: &mut impl Write,
-    text: &[u8],
-    words: &[u32],
-    first: usize,
-    root: usize,
-) -> io::Result<usize> {
-    let mut row = first;
-    while row < words.len() / ROW {
-        if root < row {
-            break;
+fn numbers(out: &mut impl Write, text: &[u8], subtree: &[[u32; ROW]]) -> io::Result<()> {
+    for (i, row) in subtree.iter().enumerate() {
+        if row[column::KIND] == Kind::Number.number() {
+            number(out, text, &subtree[..i])?;
         }
-        if wide(words[row * ROW + column::KIND]) == kind::NUMBER {
-            number(out, text, words, row)?;
-        }
-        row += 1;
     }
-    Ok(row)
+    Ok(())
+}
+
+// The value of a number, or its refusal and its place.
+fn number(out: &mut impl Write, text: &[u8], before: &[[u32; ROW]]) -> io::Result<()> {
+    let Some(Digits { ty, low, high }) = digits_of(text, before) else {
+        return out.write_all(b" no digits");
+    };
+    match value_of(ty, text, low, high) {
+        Ok(v) => write!(out, " {v}"),
+        Err(e) => {
+            let code = e.number();
+            write!(out, " refused {code} at {low}..{high}")
+        }
+    }
+}
+
+// The place of a number's digits, and their type.
+#[derive(Clone, Copy)]
+struct Digits {
+    ty: NumberType,
+    low: usize,
+    high: usize,
 }
 
 // The rows of a number are its type (49), its digits (50) and itself (39), one behind the other. That a reading has them so, with places in its
 // text, is tested here and not proved.
-fn number(out: &mut impl Write, text: &[u8], words: &[u32], row: usize) -> io::Result<()>
-    requires { row < length words.now / row_width }
+fn digits_of(text: &[u8], before: &[[u32; ROW]]) -> Option<Digits>
+    ensures { IfSome result (λ d. (d.low ≤ d.high) × (d.high ≤ length text.now)) }
 {
-    if row < 2 {
-        return missing(out);
-    }
-    let digits = (row - 1) * ROW;
-    let mark = (row - 2) * ROW;
-    if wide(words[mark + column::KIND]) != kind::NUMBER_TYPE {
-        return missing(out);
-    }
-    if wide(words[digits + column::KIND]) != kind::NUMBER_TEXT {
-        return missing(out);
-    }
-    let Typed::Known(ty) = number::typed_of(words[mark + column::DETAIL]) else {
-        return missing(out);
+    let [.., mark, digits] = before else {
+        return None;
     };
-    let low = wide(words[digits + column::LOW]);
-    let high = wide(words[digits + column::HIGH]);
-    if high < low {
-        return missing(out);
-    }
-    if text.len() < high {
-        return missing(out);
-    }
-    answer(out, value_of(ty, text, low, high), low, high)
-}
-
-fn missing(out: &mut impl Write) -> io::Result<()> {
-    out.write_all(b" no digits")
+    let ty = NumberType::try_from(mark[column::DETAIL]).ok()?;
+    let low = digits[column::LOW] as usize;
+    let high = digits[column::HIGH] as usize;
+    let told = mark[column::KIND] == Kind::NumberType.number()
+        && digits[column::KIND] == Kind::NumberText.number();
+    (told && low <= high && high <= text.len()).then_some(Digits { ty, low, high })
 }
 
 // The value of the digits from low to high. They are not copied: the part that is lent is the text's.
-fn value_of(ty: NumberType, text: &[u8], low: usize, high: usize) -> Valued
+fn value_of(ty: NumberType, text: &[u8], low: usize, high: usize) -> Result<u64, ValueError>
     requires { (low ≤ high) × (high ≤ length text.now) }
     ensures { told result ≡ number_value (base_of ty) (part_of low high text.now) }
 {
     number::value(ty, &text[low..high])
-}
-
-fn answer(out: &mut impl Write, r: Valued, low: usize, high: usize) -> io::Result<()> {
-    match r {
-        Valued::Is(v) => write!(out, " {v}"),
-        Valued::NotANumber => refused(out, 10, low, high),
-        Valued::TooLarge => refused(out, 9, low, high),
-    }
-}
-
-fn refused(out: &mut impl Write, code: usize, low: usize, high: usize) -> io::Result<()> {
-    output::number(out, b" refused ", code)?;
-    output::number(out, b" at ", low)?;
-    output::number(out, b"..", high)
-}
-
-fn wide(x: u32) -> usize {
-    x as usize
 }

@@ -2,7 +2,7 @@
 use mathlib.Core.Path.{◌≡◌, refl, ap, sym, subst, ◌∙◌}
 use mathlib.Core.Bool.{Bool, true, false}
 use mathlib.Core.List.{List}
-use Prim.Native.Nat.{ℕ, zero, suc, ◌+◌, ◌/◌, ◌≤◌, ◌<◌}
+use Prim.Native.Nat.{ℕ, zero, suc, ◌+◌, ◌/◌, min, ◌≤◌, ◌<◌}
 use native.Mathlib.Omega.{arith}
 use borrow.Author.Tests.{eqb-true, eqb-false, ltb-true, ltb-false, leb-true, leb-false}
 use lib.Dec.{eqb, ltb, leb}
@@ -86,6 +86,14 @@ lined_full s t n (suc m) h i = go (leb n m) refl (lined_full s t n m h)
     go false j g =
         let o : m < n = leb-false _ _ j in
         ap (lined s t) (let e : suc m ≡ n = omega arith in e)
+
+-- so many rows, or as many as there is room for
+pub lined_reached : (s t : List ℕ) (n m : ℕ) → min m (room row_width t) ≤ n → n ≤ m → lined s t m ≡ lined s t n
+lined_reached s t n m h i = go (leb m n) refl
+  where
+    go : (b : Bool) → leb m n ≡ b → lined s t m ≡ lined s t n
+    go true e = ap (lined s t) (let q : m ≡ n = omega (arith, leb-true m n e) in q)
+    go false e = lined_full s t n m (omega (arith, h, leb-false m n e)) i
 
 -- one row more
 pub lined_more : {u : List ℕ} (s t : List ℕ) (n : ℕ) {m x : ℕ} → u ≡ lined s t n → m ≡ n + 1 → x ≡ line s (get_or u (low_at n) 0) → set u (line_at n) x ≡ lined s t m

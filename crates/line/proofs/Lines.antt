@@ -3,11 +3,13 @@ use mathlib.Core.Path.{◌≡◌, refl, ap, sym, subst, ◌∙◌}
 use mathlib.Core.Bool.{Bool, true, false, cond}
 use mathlib.Core.List.{List, [], ◌∷◌}
 use mathlib.Core.Logic.{◌⊎◌, inl, inr}
-use Prim.Native.Nat.{ℕ, zero, suc, ◌+◌, ◌-◌, ◌≤◌, ◌<◌}
+use Prim.Native.Nat.{ℕ, zero, suc, ◌+◌, ◌-◌, min, ◌≤◌, ◌<◌}
 use native.Mathlib.Omega.{arith}
-use borrow.Author.Tests.{eq-eqb, ne_eqb, leb-true, leb-false}
+use borrow.Author.Tests.{eq-eqb, ne_eqb, eqb-true, eqb-false, leb-true, leb-false}
 use lib.Dec.{eqb, leb}
-use lib.ListN.{length, get_or, take, length-take, get_or-eq_default}
+use lib.ListN.{length, get_or, take, drop, length-take, get_or-eq_default}
+use mir.Val.{bool_byte}
+use Rattle.std.proofs.lemmas.List.{get_or-take, get_or-drop}
 use Rattle.reading.specs.Table.{line_feeds, line}
 use Rattle.line.specs.Lines.{Level}
 
@@ -44,6 +46,22 @@ line_over s p h = go (line_next s p ∙ ap (λ (x : Bool). cond x (suc (line s p
 
 pub line_on : (s : List ℕ) (p : ℕ) → (get_or s p 0 ≡ 10 → ⊥) → line s (p + 1) ≡ line s p
 line_on s p h = ap (line s) (let o : p + 1 ≡ suc p = omega arith in o) ∙ line_next s p ∙ ap (λ (x : Bool). cond x (suc (line s p)) (line s p)) (ne_eqb _ _ h)
+
+pub one_at_most : (b : Bool) (n : ℕ) → n ≡ bool_byte b → n ≤ 1
+one_at_most true n e = omega (arith, e)
+one_at_most false n e = omega (arith, e)
+
+-- a byte more, and a line more if it is a line feed
+pub line_more : (s : List ℕ) (p : ℕ) {b n : ℕ} → b ≡ get_or s p 0 → n ≡ bool_byte (eqb b 10) → line s p + n ≡ line s (p + 1)
+line_more s p {b} {n} e h = go (eqb b 10) refl h
+  where
+    go : (x : Bool) → eqb b 10 ≡ x → n ≡ bool_byte x → line s p + n ≡ line s (p + 1)
+    go true f h = omega (arith, h, line_over s p (sym e ∙ eqb-true _ _ f))
+    go false f h = omega (arith, h, line_on s p (λ i. eqb-false _ _ f (e ∙ i)))
+
+-- a byte of a part
+pub part_at : (s : List ℕ) (a k i : ℕ) → i < length (take k (drop a s)) → get_or (take k (drop a s)) i 0 ≡ get_or s (a + i) 0
+part_at s a k i h = get_or-take k (drop a s) i 0 (omega (arith, length-take k (drop a s))) ∙ get_or-drop a s i 0
 
 pub line_start : (s : List ℕ) → line s 0 ≡ 1
 unfolding line
@@ -115,6 +133,9 @@ clear_more {s} {a} {j} {first} k l (inr e) x g h m i n = go (leb m j) refl
         subst (Level s a) (let q : a + j + 1 ≡ a + m = omega arith in q) (level_both (omega arith) (l j (omega arith) (omega arith)) (level_one s (a + j) e))
 
 -- counting has come to the place, or to the text's end before it
-pub line_reached : (s : List ℕ) (end i to : ℕ) → (length s ≤ end) ⊎ (to ≤ end) → end ≤ i → i ≤ to → line s to ≡ line s i
-line_reached s end i to (inl h) j k = line_end s i to (omega arith) k
-line_reached s end i to (inr h) j k = ap (line s) (let e : to ≡ i = omega arith in e)
+pub line_reached : (s : List ℕ) (i to : ℕ) → min (length s) to ≤ i → i ≤ to → line s to ≡ line s i
+line_reached s i to h k = go (leb (length s) i) refl
+  where
+    go : (x : Bool) → leb (length s) i ≡ x → line s to ≡ line s i
+    go true e = line_end s i to (leb-true _ _ e) k
+    go false e = ap (line s) (let o : to ≡ i = omega (arith, h, leb-false (length s) i e) in o)

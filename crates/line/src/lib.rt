@@ -5,12 +5,12 @@
 // ask of that row only that it has its line.
 #![tactic(auto)]
 
-ghost use Rattle.std.specs.Prelude.{◌≡◌, List, ℕ, ◌+◌, ◌^◌, ◌≤◌, ◌<◌, length};
+ghost use Rattle.std.specs.Prelude.{◌≡◌, List, ℕ, ◌+◌, ◌^◌, ◌≤◌, ◌<◌, length, IfSome};
 ghost use Rattle.reading.specs.Table.{max_text, row_width, room, line};
 ghost use Rattle.line.specs.Lines.{Level, Numbered, lined};
 ghost use Rattle.line.specs.Marks.{On, Marked};
 
-use table::{Walked, column};
+use table::column;
 
 // How many bytes are looked at together for a line's end; contracts and bytes below have the number again.
 const BLOCK: usize = 96;
@@ -45,26 +45,23 @@ fn feeds_near(text: &[u8], from: usize, to: usize) -> u8
     ensures { line text.now from + result ≡ line text.now to }
 {
     let mut n: u8 = 0;
-    let mut i = from;
-    while i < to {
-        let one: u8 = if text[i] == b'\n' { 1 } else { 0 };
-        n += one;
-        i += 1;
+    for b in &text[from..to] {
+        n += u8::from(*b == b'\n');
     }
     n
 }
 
-// The line feeds from one place to another.
+// The line feeds from one place to another. A turn takes up to RUN bytes, so this is no `for`.
 fn line_feeds(text: &[u8], from: usize, to: usize) -> u32
     requires { (length text.now ≤ max_text) × (from ≤ to) }
     ensures { line text.now from + result ≡ line text.now to }
 {
-    let end = if text.len() < to { text.len() } else { to };
+    let end = text.len().min(to);
     let mut n: u32 = 0;
     let mut i = from;
     while i < end {
-        let stop = if end - i < RUN { end } else { i + RUN };
-        n += feeds_near(text, i, stop) as u32;
+        let stop = i + RUN.min(end - i);
+        n += u32::from(feeds_near(text, i, stop));
         i = stop;
     }
     n
@@ -77,23 +74,18 @@ fn first_feed(text: &[u8], at: usize) -> usize
     ensures { (result ≤ 96) × Level text.now at (at + result) }
 {
     let mut first: u8 = 96;
-    let mut j: usize = 0;
-    while j < BLOCK {
-        let found = if text[at + j] == b'\n' { j as u8 } else { 96 };
-        first = if found < first { found } else { first };
-        j += 1;
+    for (j, b) in text[at..at + BLOCK].iter().enumerate() {
+        let found = if *b == b'\n' { j as u8 } else { 96 };
+        first = first.min(found);
     }
-    first as usize
+    usize::from(first)
 }
 
 // A place on the same line, as far as its line feed or the block's end; the place itself where the text has no whole block any more.
 fn clear_end(text: &[u8], at: usize) -> usize
     ensures { (at ≤ result) × Level text.now at result }
 {
-    if text.len() <= at {
-        return at;
-    }
-    if text.len() - at < BLOCK {
+    if text.len() <= at || text.len() - at < BLOCK {
         return at;
     }
     at + first_feed(text, at)
@@ -116,12 +108,7 @@ fn steps_from(before: Stretch, at: usize) -> usize
 fn feed(text: &[u8], at: usize) -> u32
     ensures { line text.now at + result ≡ line text.now (at + 1) }
 {
-    if at < text.len() {
-        if text[at] == b'\n' {
-            return 1;
-        }
-    }
-    0
+    u32::from(at < text.len() && text[at] == b'\n')
 }
 
 // The stretch that begins behind another one.
@@ -166,41 +153,41 @@ fn ahead(text: &[u8], before: Stretch, at: usize) -> Stretch
 
 // The first row of the last subtree of so many rows; where there is none, their number.
 fn first_row(rows: &[u32], count: usize) -> usize {
-    let walked = table::walk(rows, count);
-    if let Walked::Subtree(_, before) = walked {
-        return before;
-    }
-    count
+    table::walk(rows, count).map_or(count, |s| s.before)
 }
 
-// The first child of row n, whose subtree begins with row `first`. Each row is passed by no row but its parent.
-fn first_child(rows: &[u32], n: usize, first: usize) -> usize {
+// The first child of row n, whose subtree begins with row `first`. Each row is passed by no row but its parent. A turn goes back by a subtree, so
+// this is no `for`.
+fn first_child(rows: &[u32], n: usize, first: usize) -> Option<usize>
+    ensures { IfSome result (λ k. k < n) }
+{
     let mut c = n;
     while first < c {
         let before = first_row(rows, c);
         if before <= first {
-            return c - 1;
+            return Some(c - 1);
         }
         if c <= before {
-            return n;
+            return None;
         }
         c = before;
     }
-    n
+    None
 }
 
-// A row before row n from which its line is soon counted, or n. A row with no subtree that goes back is a closing brace that was supplied: the row
-// behind it is its block's, which begins with the brace that it copies.
-fn near(rows: &[u32], n: usize, low: usize) -> usize
+// A row before row n from which its line is soon counted. A row with no subtree that goes back is a closing brace that was supplied: the row behind
+// it is its block's, which begins with the brace that it copies.
+fn near(rows: &[u32], n: usize, low: usize) -> Option<usize>
     requires { n < room row_width rows.now }
+    ensures { IfSome result (λ k. k < n) }
 {
     let own = first_row(rows, n + 1);
     let first = if own < n { own } else { first_row(rows, n + 2) };
     if n <= first {
-        return n;
+        return None;
     }
     if rows[first * table::ROW + column::LOW] as usize == low {
-        return first;
+        return Some(first);
     }
     first_child(rows, n, first)
 }
@@ -224,17 +211,15 @@ fn line_of(text: &[u8], rows: &[u32], n: usize, low: usize, here: Stretch) -> u3
     if here.from <= low {
         return here.line;
     }
-    let k = near(rows, n, low);
-    let mark = if k < n {
-        Mark {
+    let mark = match near(rows, n, low) {
+        Some(k) => Mark {
             at: rows[k * table::ROW + column::LOW] as usize,
             line: rows[k * table::ROW + column::LINE],
-        }
-    } else {
-        Mark {
+        },
+        None => Mark {
             at: here.from,
             line: here.line,
-        }
+        },
     };
     line_from(text, mark, low)
 }
@@ -244,19 +229,14 @@ fn fill(rows: &mut [u32], n: usize, count: usize, here: Stretch) -> usize
     requires { (n < count) × (count ≤ room row_width rows.old) }
     ensures { (n < result) × (result ≤ count) × ((s t : List ℕ) → On s here → rows.old ≡ lined s t (n + 1) → rows.new ≡ lined s t result) }
 {
-    let mut m = n + 1;
-    while m < count {
+    for m in n + 1..count {
         let low = rows[m * table::ROW + column::LOW] as usize;
-        if here.to < low {
-            return m;
-        }
-        if low < here.from {
+        if here.to < low || low < here.from {
             return m;
         }
         rows[m * table::ROW + column::LINE] = here.line;
-        m += 1;
     }
-    m
+    count
 }
 
 // The stretch at the start of a text.
@@ -271,7 +251,7 @@ pub fn start(text: &[u8]) -> Stretch
 }
 
 // Fills in the lines of the rows up to `count`, as far as there is room. The first ones have theirs; `reached` is the stretch to which the pass has
-// come, and the answer the one to which it comes.
+// come, and the answer the one to which it comes. A turn takes as many rows as begin on the stretch, so this is no `for`.
 pub fn number(
     text: &[u8],
     rows: &mut [u32],
@@ -282,8 +262,7 @@ pub fn number(
     requires { (length text.now ≤ max_text) × On text.now reached × (first ≤ count) × Numbered text.now rows.old first }
     ensures { On text.now result × (rows.new ≡ lined text.now rows.old count) }
 {
-    let room = rows.len() / table::ROW;
-    let end = if room < count { room } else { count };
+    let end = count.min(rows.len() / table::ROW);
     let mut here = reached;
     let mut n = first;
     while n < end {

@@ -13,7 +13,7 @@ const LONGEST: usize = 8192;
 fn main(rt: HostRuntime) -> io::Result<()> {
     let mut out = BufWriter::new(rt.alloc(), io::writer(&rt))?;
     let mut text = Vec::new(rt.alloc());
-    rt.reader().take(8193).read_to_end(&mut text)?;
+    rt.reader().take(LONGEST as u64 + 1).read_to_end(&mut text)?;
     if LONGEST < text.len() {
         output::refused(&mut out, 1, LONGEST)?;
     } else {
@@ -41,35 +41,22 @@ fn listing(out: &mut impl Write, text: &[u8]) -> io::Result<()> {
 }
 
 fn end(out: &mut impl Write, x: Reading) -> io::Result<()> {
-    output::number(out, b"scope swallow\n", x.scope)?;
-    if x.swallow {
-        out.write_all(b" 1\n")
-    } else {
-        out.write_all(b" 0\n")
-    }
+    let scope = x.scope;
+    let swallow = u8::from(x.swallow);
+    writeln!(out, "scope swallow\n{scope} {swallow}")
 }
 
 // So many records of this width, a line each.
 fn records(out: &mut impl Write, words: &[u32], n: usize, width: usize) -> io::Result<()>
     requires { 0 < width }
 {
-    let mut i: usize = 0;
-    while i < words.len() {
-        if n <= i / width {
-            return Ok(());
+    for record in words.chunks_exact(width).take(n) {
+        if let Some((last, front)) = record.split_last() {
+            for word in front {
+                write!(out, "{word} ")?;
+            }
+            writeln!(out, "{last}")?;
         }
-        let x = wide(words[i]);
-        write!(out, "{x}")?;
-        if i % width == width - 1 {
-            out.write_all(b"\n")?;
-        } else {
-            out.write_all(b" ")?;
-        }
-        i += 1;
     }
     Ok(())
-}
-
-fn wide(x: u32) -> u64 {
-    x as u64
 }

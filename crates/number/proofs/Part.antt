@@ -7,12 +7,13 @@ use Prim.Native.Nat.{ℕ, zero, suc, ◌+◌, ◌<◌}
 use native.Mathlib.Omega.{arith}
 use lib.ListN.{length, get_or, take, drop, replicate, length-replicate, get_or-replicate, length-drop, take-append-drop}
 use lib.Seq.{length-take-le, get_or-take, get_or-drop, ext_get_or}
+use Rattle.std.specs.Prelude.{Result, Ok, Err}
 use Rattle.reading.specs.Byte.{bytes}
 use Rattle.reading.specs.Table.{answered}
 use Rattle.reading.specs.Number.{Base, hexadecimal, decimal, binary, is_digit, all_digits, digits, digits_value, number_value}
 use Rattle.number.specs.declared.NumberType.{NumberType}
-use Rattle.number.specs.declared.Valued.{Valued}
-use Rattle.number.specs.declared.Valued.TheVariants.{Is, NotANumber, TooLarge}
+use Rattle.number.specs.declared.ValueError.{ValueError}
+use Rattle.number.specs.declared.ValueError.TheVariants.{NotANumber, TooLarge}
 use Rattle.number.specs.Answers.{base_of, told}
 use Rattle.number.specs.Part.{Part, size, byte, bytes_of, Equal, Zeros, Digits, one, Alone}
 use Rattle.number.proofs.Words.{words, no_word, true_digits, false_digits}
@@ -117,24 +118,22 @@ zeros_one x z = zeros_before x z (one_digit x) ∙ is_one x
 
 -- The call --------------------------------------------------------------------
 
-told_one : (r s : Valued) → told r ≡ told s → r ≡ s
-told_one (Is v) (Is w) e = cc
-told_one NotANumber NotANumber e = refl
-told_one TooLarge TooLarge e = refl
-told_one (Is v) NotANumber e = cc
-told_one (Is v) TooLarge e = cc
-told_one NotANumber (Is w) e = cc
-told_one NotANumber TooLarge e = cc
-told_one TooLarge (Is w) e = cc
-told_one TooLarge NotANumber e = cc
+told_one : (r s : Result ℕ ValueError) → told r ≡ told s → r ≡ s
+told_one (Ok v) (Ok w) e = cc
+told_one (Ok v) (Err d) e = cc
+told_one (Err d) (Ok w) e = cc
+told_one (Err NotANumber) (Err NotANumber) e = refl
+told_one (Err TooLarge) (Err TooLarge) e = refl
+told_one (Err NotANumber) (Err TooLarge) e = cc
+told_one (Err TooLarge) (Err NotANumber) e = cc
 
-module _ (ty : NumberType) (p : Part) (r : Valued) (m : told r ≡ number_value (base_of ty) (bytes_of p)) where
-  pub value_alone : (q : Part) (s : Valued) → told s ≡ number_value (base_of ty) (bytes_of q) → Alone (some (base_of ty)) p r q s
+module _ (ty : NumberType) (p : Part) (r : Result ℕ ValueError) (m : told r ≡ number_value (base_of ty) (bytes_of p)) where
+  pub value_alone : (q : Part) (s : Result ℕ ValueError) → told s ≡ number_value (base_of ty) (bytes_of q) → Alone (some (base_of ty)) p r q s
   value_alone q s n =
       record {
         same = λ e. told_one r s (m ∙ (ap (number_value (base_of ty)) (same_bytes e) ∙ sym n));
         zeros = λ b e k z d. let f : b ≡ base_of ty = cc in told_one r s (m ∙ (zeros_before (base_of ty) z (subst (λ (x : Base). Digits x q) f d) ∙ sym n));
       }
 
-  pub value_one : {n : ℕ} → Zeros n p one → r ≡ Is 1
-  value_one z = told_one r (Is 1) (m ∙ zeros_one (base_of ty) z)
+  pub value_one : {n : ℕ} → Zeros n p one → r ≡ Ok 1
+  value_one z = told_one r (Ok 1) (m ∙ zeros_one (base_of ty) z)

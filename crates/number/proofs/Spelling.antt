@@ -7,12 +7,13 @@ use native.Mathlib.Omega.{arith}
 use borrow.Author.Tests.{le-leb, eqb-true, eqb-false, eq-eqb, ne_eqb}
 use lib.Dec.{eqb}
 use lib.ListN.{length}
+use Rattle.std.specs.Prelude.{Result}
 use Rattle.reading.proofs.Bool.{neither}
 use Rattle.reading.specs.Byte.{bytes, within, lower}
 use Rattle.reading.specs.Table.{Answer, answered, refused}
 use Rattle.reading.specs.Number.{Base, same, lowered, digits, number_value, value_before}
 use Rattle.number.specs.declared.NumberType.{NumberType}
-use Rattle.number.specs.declared.Valued.{Valued}
+use Rattle.number.specs.declared.ValueError.{ValueError}
 use Rattle.number.specs.Answers.{base_of, told}
 use Rattle.number.specs.Spelling.{spellings, other_spellings, new_spellings, among, distinct, Amended}
 use Rattle.number.proofs.Bytes.{parts, at_least, at_most}
@@ -151,5 +152,5 @@ amended seen x t r m =
       others = λ h. m ∙ ap seen (others x t h);
     }
 
-pub value_amended : (ty : NumberType) (t : List ℕ) (r : Valued) → told r ≡ number_value (base_of ty) t → Amended (λ a. a) (base_of ty) t (told r)
+pub value_amended : (ty : NumberType) (t : List ℕ) (r : Result ℕ ValueError) → told r ≡ number_value (base_of ty) t → Amended (λ a. a) (base_of ty) t (told r)
 value_amended ty t r m = amended (λ a. a) (base_of ty) t (told r) m

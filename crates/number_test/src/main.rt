@@ -3,15 +3,13 @@
 // differ.
 #![tactic(auto)]
 
-ghost use Rattle.std.specs.Prelude.{◌<◌, ◌≤◌, length};
-
-use number::{Typed, Valued};
-use output::Tally;
+use fields::Fields;
+use number::{NumberType, ValueError};
 use parser::Answer;
+use reading::Refusal;
 use std::io;
 use std::io::{BufWriter, Read, Write};
-use std::num::wrapping_add_usize;
-use table::{ERROR, REQUEST, ROW, column, kind};
+use table::{ERROR, Kind, REQUEST, ROW, column};
 
 // The longest input; what lies behind it is not read.
 const LONGEST: u64 = 65536;
@@ -19,8 +17,7 @@ const LONGEST: u64 = 65536;
 // So many bytes stand before a text, and so many behind it.
 const MARGIN: usize = 32;
 
-// What is expected of a part, and the place of the text's runs. Where `row` is not 0, the part is the body of that row of the text's reading, which
-// has so many numbers.
+// What is expected of a part. Where `row` is not 0, the part is the body of that row of the text's reading, which has so many numbers.
 #[derive(Clone, Copy)]
 struct Expected {
     row: usize,
@@ -30,7 +27,6 @@ struct Expected {
     high: usize,
     refusal: usize,
     value: usize,
-    next: usize,
 }
 
 fn main(rt: HostRuntime) -> io::Result<()> {
@@ -38,112 +34,60 @@ fn main(rt: HostRuntime) -> io::Result<()> {
     let mut input = Vec::new(rt.alloc());
     let mut text = [0u8; 262144];
     rt.reader().take(LONGEST).read_to_end(&mut input)?;
-    lines(&mut out, &input, &mut text)?;
+    output::replay(&mut out, &input, |line| case(line, &mut text))?;
     out.flush()
 }
 
-fn lines(out: &mut impl Write, input: &[u8], text: &mut [u8]) -> io::Result<()> {
-    let mut tally = output::no_cases();
-    let mut at: usize = 0;
-    while at < input.len() {
-        let next = fields::behind(input, at, b'\n');
-        tally = line(out, input, at, next, text, tally)?;
-        at = next;
-    }
-    Ok(())
-}
-
-// A case; or the name of the cases before it, behind a `#`.
-fn line(
-    out: &mut impl Write,
-    input: &[u8],
-    at: usize,
-    next: usize,
-    text: &mut [u8],
-    tally: Tally,
-) -> io::Result<Tally>
-    requires { (at < next) × (next ≤ length input.now) }
-{
-    if input[at] == b'#' {
-        return output::named(out, tally, &input[at + 1..next]);
-    }
-    let same = case(input, at, next, text);
-    output::counted(out, tally, at, same)
-}
-
 // Between bytes that are digits in every base, and between bytes that are digits in none.
-fn case(input: &[u8], at: usize, next: usize, text: &mut [u8]) -> bool
-    requires { next ≤ length input.now }
-{
-    let c = expected_of(input, at);
-    let a = between(input, c, next, b'1', text);
-    let b = between(input, c, next, b'x', text);
-    a & b
-}
-
-fn expected_of(input: &[u8], at: usize) -> Expected {
-    let row = fields::field(input, at);
-    let numbers = fields::field(input, row.next);
-    let number_type = fields::field(input, numbers.next);
-    let low = fields::field(input, number_type.next);
-    let high = fields::field(input, low.next);
-    let refusal = fields::field(input, high.next);
-    let value = fields::field(input, refusal.next);
-    Expected {
-        row: row.value,
-        numbers: numbers.value,
-        number_type: number_type.value,
-        low: low.value,
-        high: high.value,
-        refusal: refusal.value,
-        value: value.value,
-        next: value.next,
-    }
+fn case(line: &[u8], text: &mut [u8]) -> bool {
+    between(line, b'1', text) & between(line, b'x', text)
 }
 
 // Lays the text between such bytes, and compares there.
-fn between(input: &[u8], c: Expected, next: usize, around: u8, text: &mut [u8]) -> bool
-    requires { next ≤ length input.now }
-{
+fn between(line: &[u8], around: u8, text: &mut [u8]) -> bool {
+    let mut fields = Fields::new(line);
+    let expected = expected_of(&mut fields);
     let low = fields::put(text, 0, MARGIN, around);
-    let high = fields::runs(input, c.next, next, text, low);
+    let high = fields.runs(text, low);
     let end = fields::put(text, high, MARGIN, around);
-    if end == text.len() {
-        return false;
-    }
-    compare(c, &text[low..high])
+    end < text.len() && compare(expected, &text[low..high])
 }
 
-fn compare(c: Expected, text: &[u8]) -> bool {
-    if c.row == 0 {
-        return valued(c, text);
+fn expected_of(fields: &mut Fields) -> Expected {
+    Expected {
+        row: fields.number(),
+        numbers: fields.number(),
+        number_type: fields.number(),
+        low: fields.number(),
+        high: fields.number(),
+        refusal: fields.number(),
+        value: fields.number(),
     }
-    read(c, text) & valued(c, text)
+}
+
+fn compare(e: Expected, text: &[u8]) -> bool {
+    (e.row == 0 || read(e, text)) && valued(e, text)
 }
 
 // The value of the part against what is expected.
-fn valued(c: Expected, text: &[u8]) -> bool {
-    let low = c.low;
-    let high = c.high;
-    if high < low {
-        return false;
-    }
-    if text.len() < high {
-        return false;
-    }
-    let Typed::Known(ty) = number::typed_of((c.number_type % 256) as u32) else {
-        return false;
-    };
-    let r = number::value(ty, &text[low..high]);
-    match r {
-        Valued::Is(v) => (c.refusal == 0) & (c.value as u64 == v),
-        Valued::NotANumber => (c.refusal == 10) & (c.value == 0),
-        Valued::TooLarge => (c.refusal == 9) & (c.value == 0),
+fn valued(e: Expected, text: &[u8]) -> bool {
+    match value(e, text) {
+        None => false,
+        Some(Ok(v)) => e.refusal == 0 && v == e.value as u64,
+        Some(Err(r)) => e.refusal == r.number() as usize && e.value == r.gives(),
     }
 }
 
+// None where the part is outside the text, or the type is none.
+fn value(e: Expected, text: &[u8]) -> Option<Result<u64, ValueError>> {
+    let part = text.get(e.low..e.high)?;
+    let number_type = u32::try_from(e.number_type).ok()?;
+    let ty = NumberType::try_from(number_type).ok()?;
+    Some(number::value(ty, part))
+}
+
 // Whether the text's reading has so many numbers, and the row.
-fn read(c: Expected, text: &[u8]) -> bool {
+fn read(e: Expected, text: &[u8]) -> bool {
     let mut rows = [0u32; 256 * ROW];
     let mut errors = [0u32; 64 * ERROR];
     let mut requests = [0u32; 64 * REQUEST];
@@ -151,42 +95,27 @@ fn read(c: Expected, text: &[u8]) -> bool {
     let Answer::Read(x) = r else {
         return false;
     };
-    (numbers(&rows, x.rows) == c.numbers) & has(&rows, c)
+    let (rows, _) = rows.as_chunks::<ROW>();
+    numbers(rows, x.rows) == e.numbers && has(rows, e)
 }
 
-fn numbers(rows: &[u32], count: usize) -> usize {
-    let mut n: usize = 0;
-    let mut row: usize = 0;
-    while row < rows.len() / ROW {
-        if count <= row {
-            break;
-        }
-        if wide(rows[row * ROW + column::KIND]) == kind::NUMBER_TEXT {
-            n = wrapping_add_usize(n, 1);
-        }
-        row += 1;
-    }
-    n
+fn numbers(rows: &[[u32; ROW]], count: usize) -> usize {
+    rows.iter()
+        .take(count)
+        .filter(|row| row[column::KIND] == Kind::NumberText.number())
+        .count()
 }
 
 // The row has the part's places, and the one before it the number's type.
-fn has(rows: &[u32], c: Expected) -> bool {
-    let row = c.row;
-    if row == 0 {
+fn has(rows: &[[u32; ROW]], e: Expected) -> bool {
+    if e.row == 0 || rows.len() <= e.row {
         return false;
     }
-    if rows.len() / ROW <= row {
-        return false;
-    }
-    let i = row * ROW;
-    let mark = (row - 1) * ROW;
-    (wide(rows[mark + column::KIND]) == kind::NUMBER_TYPE)
-        & (wide(rows[mark + column::DETAIL]) == c.number_type)
-        & (wide(rows[i + column::KIND]) == kind::NUMBER_TEXT)
-        & (wide(rows[i + column::LOW]) == c.low)
-        & (wide(rows[i + column::HIGH]) == c.high)
-}
-
-fn wide(x: u32) -> usize {
-    x as usize
+    let mark = rows[e.row - 1];
+    let part = rows[e.row];
+    mark[column::KIND] == Kind::NumberType.number()
+        && mark[column::DETAIL] as usize == e.number_type
+        && part[column::KIND] == Kind::NumberText.number()
+        && part[column::LOW] as usize == e.low
+        && part[column::HIGH] as usize == e.high
 }

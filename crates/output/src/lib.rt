@@ -1,10 +1,10 @@
 // What several programs print.
 #![tactic(auto)]
 
-use parser::Answer;
+use parser::{Answer, Reading};
+use reading::Refusal;
 use std::io;
 use std::io::Write;
-use std::num::wrapping_add_usize;
 
 // A number behind a label.
 pub fn number(out: &mut impl Write, label: &[u8], n: usize) -> io::Result<()> {
@@ -14,57 +14,79 @@ pub fn number(out: &mut impl Write, label: &[u8], n: usize) -> io::Result<()> {
 
 // A refusal, as document 01 lists it.
 pub fn refused(out: &mut impl Write, code: usize, gives: usize) -> io::Result<()> {
-    number(out, b"refusal number\n", code)?;
-    number(out, b" ", gives)?;
-    out.write_all(b"\n")
+    writeln!(out, "refusal number\n{code} {gives}")
+}
+
+pub fn refusal(out: &mut impl Write, refusal: &impl Refusal) -> io::Result<()> {
+    refused(out, refusal.number() as usize, refusal.gives())
+}
+
+// The reading, or the refusal's number and what it gives.
+pub fn outcome(a: Answer) -> Result<Reading, (usize, usize)> {
+    match a {
+        Answer::Read(x) => Ok(x),
+        Answer::TooLong(n) => Err((1, n)),
+        Answer::HighByte(n) => Err((2, n)),
+        Answer::ScopeTooLarge(n) => Err((3, n)),
+        Answer::LevelTooLarge(n) => Err((4, n)),
+        Answer::TooDeep(n) => Err((5, n)),
+        Answer::NoRoomForRows(n) => Err((6, n)),
+        Answer::NoRoomForErrors(n) => Err((7, n)),
+        Answer::NoRoomForRequests(n) => Err((8, n)),
+    }
 }
 
 // The refusal of a text that is not read.
 pub fn not_read(out: &mut impl Write, a: Answer) -> io::Result<()> {
-    match a {
-        Answer::Read(_) => Ok(()),
-        Answer::TooLong(n) => refused(out, 1, n),
-        Answer::HighByte(n) => refused(out, 2, n),
-        Answer::ScopeTooLarge(n) => refused(out, 3, n),
-        Answer::LevelTooLarge(n) => refused(out, 4, n),
-        Answer::TooDeep(n) => refused(out, 5, n),
-        Answer::NoRoomForRows(n) => refused(out, 6, n),
-        Answer::NoRoomForErrors(n) => refused(out, 7, n),
-        Answer::NoRoomForRequests(n) => refused(out, 8, n),
+    match outcome(a) {
+        Ok(_) => Ok(()),
+        Err((number, gives)) => refused(out, number, gives),
     }
 }
 
-// The cases of a name: how many are equal, and how many differ.
-#[derive(Clone, Copy)]
+// Cases: how many are equal, and how many differ.
+#[derive(Clone, Copy, Debug, Default, PartialEq, Eq)]
 pub struct Tally {
     pub equal: usize,
     pub different: usize,
 }
 
-pub fn no_cases() -> Tally {
-    Tally {
-        equal: 0,
-        different: 0,
+impl Tally {
+    // One case more.
+    pub fn count(&mut self, same: bool) {
+        if same {
+            self.equal = self.equal.wrapping_add(1);
+        } else {
+            self.different = self.different.wrapping_add(1);
+        }
     }
 }
 
-// With one more, which stands at this place of the input. One that differs is printed.
-pub fn counted(out: &mut impl Write, tally: Tally, at: usize, same: bool) -> io::Result<Tally> {
-    let mut t = tally;
-    if same {
-        t.equal = wrapping_add_usize(t.equal, 1);
-        return Ok(t);
+// Replays an input, of which each line is a case or, behind a `#`, the name of the cases before it. Printed are the place of each case that is not
+// the same, and for each name how many are equal and how many differ.
+pub fn replay<F: FnMut(&[u8]) -> bool>(
+    out: &mut impl Write,
+    input: &[u8],
+    mut is_same: F,
+) -> io::Result<()>
+    requires { F.IsAlwaysCallable is_same }
+{
+    let mut tally = Tally::default();
+    let mut at: usize = 0;
+    for line in input.split_inclusive(|&b| b == b'\n') {
+        if let Some(name) = line.strip_prefix(b"#") {
+            let Tally { equal, different } = tally;
+            write!(out, "equal {equal}, different {different}")?;
+            out.write_all(name)?;
+            tally = Tally::default();
+        } else {
+            let same = is_same(line);
+            if !same {
+                writeln!(out, "different: byte {at}")?;
+            }
+            tally.count(same);
+        }
+        at = at.wrapping_add(line.len());
     }
-    number(out, b"different: byte ", at)?;
-    out.write_all(b"\n")?;
-    t.different = wrapping_add_usize(t.different, 1);
-    Ok(t)
-}
-
-// Prints how many cases of this name there are; none of the next one yet.
-pub fn named(out: &mut impl Write, tally: Tally, name: &[u8]) -> io::Result<Tally> {
-    number(out, b"equal ", tally.equal)?;
-    number(out, b", different ", tally.different)?;
-    out.write_all(name)?;
-    Ok(no_cases())
+    Ok(())
 }

@@ -6,10 +6,11 @@ use Prim.Native.Nat.{ℕ, zero, suc, ◌+◌, ◌-◌, ◌≤◌, ◌<◌}
 use native.Mathlib.Omega.{arith}
 use borrow.Author.Tests.{ne_eqb, eq-eqb, lt-ltb, le-ltb, eqb-false}
 use lib.Dec.{ltb, eqb}
-use lib.ListN.{length, take, drop, set, length-set, length-drop}
+use lib.ListN.{length, take, drop, set, replicate, length-set, length-drop}
 use lib.Seq.{length-take-le}
 use Rattle.reading.specs.Table.{Answer, answered, refused, zeros, filled, room, row_width}
 use Rattle.reading.specs.Walk.{Subtree, walk, size_at}
+use Rattle.table.proofs.Zeros.{zeros_are}
 use Rattle.rows.specs.Answers.{listed}
 use Rattle.rows.specs.Tops.{more_tops, tops_from, top_rows, how_many, tops_settled, tops_listed}
 
@@ -204,14 +205,17 @@ module _ (t : List ℕ) (n : ℕ) (w : List ℕ) where
       go (answered rs) e = absurd (let z : ◌≡◌ {A = ℕ} 0 1 = cc in omega arith)
       go (refused a b) e = ap (λ (x : Answer ℕ). listed x w) e
 
-  pub no_room : (m : ℕ) → answered m ≡ how_many (top_rows t n) → length w < m → listed (refused 6 m) (filled [] w) ≡ tops_listed t n w
+  pub no_room : (m : ℕ) (v : List ℕ) → v ≡ replicate (length w) 0 → answered m ≡ how_many (top_rows t n) → length w < m → listed (refused 6 m) v ≡ tops_listed t n w
   unfolding tops_listed
-  no_room m e h = go (top_rows t n) e
+  no_room m v z e h = go (top_rows t n) e
     where
-      go : (y : Answer (List ℕ)) → answered m ≡ how_many y → listed (refused 6 m) (filled [] w) ≡ tops_settled y w
+      zeroed : v ≡ filled [] w
+      zeroed = z ∙ zeros_are (length w) ∙ ap zeros (let u : length w ≡ length w - 0 = omega arith in u)
+
+      go : (y : Answer (List ℕ)) → answered m ≡ how_many y → listed (refused 6 m) v ≡ tops_settled y w
       go (answered rs) e =
           let u : m ≡ length rs = cc in
-          rw (sym u, lt-ltb (length w) m h)
+          rw (sym u, lt-ltb (length w) m h, zeroed)
       go (refused k g) e = absurd (let z : ◌≡◌ {A = ℕ} 0 1 = cc in omega arith)
 
   pub all_listed : (m : ℕ) → m ≤ length w → (v : List ℕ) → length v ≡ length w → top_rows t n ≡ answered (take m v)

@@ -2,14 +2,16 @@
 // The work is `table::walk`'s.
 #![tactic(auto)]
 
-ghost use Rattle.std.specs.Prelude.{◌≡◌, ◌++◌, ◌-◌, ◌≤◌, length, take};
-ghost use Rattle.reading.specs.Table.{answered, zeros};
+ghost use Rattle.std.specs.Prelude.{◌≡◌, ◌≤◌, length, take};
+ghost use Rattle.reading.specs.Table.{answered};
 ghost use Rattle.reading.specs.Walk.{walk};
 ghost use Rattle.table.specs.Answers.{told};
-ghost use Rattle.rows.specs.Answers.{told_count, told_tops, listed};
+ghost use Rattle.rows.specs.Answers.{told_count, told_tops, listed, number_of, gives_of};
+ghost use Rattle.rows.specs.declared.TopsError.TheVariants.{NoSubtree};
 ghost use Rattle.rows.specs.Tops.{top_rows, how_many, tops_listed};
 
-use table::Walked;
+use reading::Refusal;
+use table::{NoSubtree, Subtree};
 
 // A row table, and how many of its rows are ahead: a walk goes from the last of them to the first.
 #[derive(Clone, Copy)]
@@ -18,63 +20,50 @@ pub struct Reader<'a> {
     pub count: usize,
 }
 
-pub fn new<'a>(words: &'a [u32], count: usize) -> Reader<'a>
-    ensures { (result.words ≡ words.entry) × (result.count ≡ count) }
-{
-    Reader { words, count }
-}
+impl<'a> Reader<'a> {
+    pub fn new(words: &'a [u32], count: usize) -> Reader<'a>
+        ensures { (result.words ≡ words.entry) × (result.count ≡ count) }
+    {
+        Reader { words, count }
+    }
 
-// The last subtree of the rows ahead.
-pub fn step<'a>(r: Reader<'a>) -> Walked
-    ensures { told result ≡ walk r.entry.words.now r.entry.count }
-{
-    table::walk(r.words, r.count)
-}
+    // The last subtree of the rows ahead.
+    pub fn step(self) -> Result<Subtree, NoSubtree>
+        ensures { told result ≡ walk self.entry.words.now self.entry.count }
+    {
+        table::walk(self.words, self.count)
+    }
 
-// The same table at another count.
-pub fn moved<'a>(r: Reader<'a>, count: usize) -> Reader<'a>
-    ensures { (result.words ≡ r.entry.words) × (result.count ≡ count) }
-{
-    Reader {
-        words: r.words,
-        count,
+    // The same table at another count.
+    pub fn moved(self, count: usize) -> Reader<'a>
+        ensures { (result.words ≡ self.entry.words) × (result.count ≡ count) }
+    {
+        Reader { count, ..self }
     }
 }
 
 // A step of a reader made here.
-pub fn last_subtree(words: &[u32], count: usize) -> Walked
+pub fn last_subtree(words: &[u32], count: usize) -> Result<Subtree, NoSubtree>
     ensures { told result ≡ walk words.now count }
 {
-    step(new(words, count))
+    Reader::new(words, count).step()
 }
 
-// How many top rows there are. Or 13, with the count at which no subtree ends.
-#[derive(Clone, Copy)]
-pub enum Counted {
-    Tops(usize),
-    NoSubtree(usize),
-}
-
-// From the last top row to the first.
-pub fn top_count(words: &[u32], count: usize) -> Counted
+// How many top rows there are, from the last one to the first.
+pub fn top_count(words: &[u32], count: usize) -> Result<usize, NoSubtree>
     ensures { told_count result ≡ how_many (top_rows words.now count) }
 {
     let mut left = count;
     let mut n: usize = 0;
     while 0 < left {
-        let w = last_subtree(words, left);
-        match w {
-            Walked::Subtree(_, before) => {
-                left = before;
-                n += 1;
-            }
-            Walked::NoSubtree(at) => return Counted::NoSubtree(at),
-        }
+        let subtree = last_subtree(words, left)?;
+        left = subtree.before;
+        n += 1;
     }
-    Counted::Tops(n)
+    Ok(n)
 }
 
-// The numbers of n top rows, the last one first, each in front of those already there. They were counted, so the `else` is never taken.
+// The numbers of n top rows, the last one first, each in front of those already there. They were counted, so none is refused.
 fn fill(words: &[u32], count: usize, n: usize, roots: &mut [usize])
     requires { (how_many (top_rows words.now count) ≡ answered n) × (n ≤ length roots.old) }
     ensures { top_rows words.now count ≡ answered (take n roots.new) }
@@ -82,50 +71,58 @@ fn fill(words: &[u32], count: usize, n: usize, roots: &mut [usize])
     let mut left = count;
     let mut i = n;
     while 0 < left {
-        let w = last_subtree(words, left);
-        let Walked::Subtree(root, before) = w else {
-            return;
-        };
+        let subtree = last_subtree(words, left).unwrap();
+        left = subtree.before;
         i -= 1;
-        roots[i] = root.0;
-        left = before;
+        roots[i] = subtree.root.0;
     }
 }
 
-// Zero in every word from this one on.
-fn clear(roots: &mut [usize], from: usize)
-    requires { from ≤ length roots.old }
-    ensures { roots.new ≡ take from roots.old ++ zeros (length roots.old - from) }
-{
-    let mut i = from;
-    while i < roots.len() {
-        roots[i] = 0;
-        i += 1;
-    }
-}
-
-// How many top rows there are; 13, as above; or 6, with how many there are, where the lent table has fewer words.
-#[derive(Clone, Copy)]
-pub enum TopsAnswer {
-    Count(usize),
-    NoSubtree(usize),
+// Why top rows are not listed: at some count no subtree ends, or the lent table has fewer words than this, how many there are.
+#[derive(Clone, Copy, Debug, PartialEq, Eq)]
+pub enum TopsError {
+    NoSubtree(NoSubtree),
     NoRoom(usize),
 }
 
-// The numbers of the top rows, first to last. They are counted first, since the first one stands at the table's start.
-pub fn tops(words: &[u32], count: usize, roots: &mut [usize]) -> TopsAnswer
+impl From<NoSubtree> for TopsError {
+    ghost from_gives = { λ e r. r ≡ NoSubtree e };
+
+    fn from(e: NoSubtree) -> TopsError {
+        TopsError::NoSubtree(e)
+    }
+}
+
+impl Refusal for TopsError {
+    ghost number = { number_of };
+
+    ghost gives = { gives_of };
+
+    fn number(&self) -> u32 {
+        match self {
+            TopsError::NoSubtree(e) => e.number(),
+            TopsError::NoRoom(_) => 6,
+        }
+    }
+
+    fn gives(&self) -> usize {
+        match self {
+            TopsError::NoSubtree(e) => e.gives(),
+            TopsError::NoRoom(n) => *n,
+        }
+    }
+}
+
+// The numbers of the top rows, first to last, and how many there are. They are counted first, since the first one stands at the table's start.
+pub fn tops(words: &[u32], count: usize, roots: &mut [usize]) -> Result<usize, TopsError>
     ensures { listed (told_tops result) roots.new ≡ tops_listed words.now count roots.old }
 {
-    let counted = top_count(words, count);
-    let n = match counted {
-        Counted::Tops(n) => n,
-        Counted::NoSubtree(at) => return TopsAnswer::NoSubtree(at),
-    };
+    let n = top_count(words, count)?;
     if roots.len() < n {
-        clear(roots, 0);
-        return TopsAnswer::NoRoom(n);
+        roots.fill(0);
+        return Err(TopsError::NoRoom(n));
     }
     fill(words, count, n, roots);
-    clear(roots, n);
-    TopsAnswer::Count(n)
+    roots[n..].fill(0);
+    Ok(n)
 }

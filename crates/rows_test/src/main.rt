@@ -2,7 +2,8 @@
 #![tactic(auto)]
 
 use parser::Answer;
-use rows::TopsAnswer;
+use reading::Refusal;
+use rows::TopsError;
 use std::io;
 use std::io::{BufWriter, Read, Write};
 use table::{ERROR, REQUEST, ROW, column};
@@ -33,23 +34,16 @@ fn read(out: &mut impl Write, text: &[u8]) -> io::Result<()> {
 // A line for each top row.
 fn whole(out: &mut impl Write, words: &[u32], count: usize) -> io::Result<()> {
     let mut roots = [0usize; 512];
-    let r = rows::tops(words, count, &mut roots);
-    match r {
-        TopsAnswer::Count(n) => lines(out, words, &roots, n),
-        TopsAnswer::NoSubtree(at) => refused(out, 13, at),
-        TopsAnswer::NoRoom(n) => refused(out, 6, n),
+    match rows::tops(words, count, &mut roots) {
+        Ok(n) => lines(out, words, &roots, n),
+        Err(e) => refused(out, e),
     }
 }
 
 fn lines(out: &mut impl Write, words: &[u32], roots: &[usize], n: usize) -> io::Result<()> {
-    let mut i: usize = 0;
-    while i < roots.len() {
-        if n <= i {
-            return Ok(());
-        }
+    for (i, root) in roots.iter().take(n).enumerate() {
         output::number(out, b"row ", i + 1)?;
-        line(out, words, roots[i])?;
-        i += 1;
+        line(out, words, *root)?;
     }
     Ok(())
 }
@@ -59,10 +53,10 @@ fn line(out: &mut impl Write, words: &[u32], root: usize) -> io::Result<()> {
         return Ok(());
     }
     let i = root * ROW;
-    output::number(out, b": kind ", wide(words[i + column::KIND]))?;
-    output::number(out, b", bytes ", wide(words[i + column::LOW]))?;
-    output::number(out, b"..", wide(words[i + column::HIGH]))?;
-    output::number(out, b", rows ", wide(words[i + column::SIZE]))?;
+    output::number(out, b": kind ", words[i + column::KIND] as usize)?;
+    output::number(out, b", bytes ", words[i + column::LOW] as usize)?;
+    output::number(out, b"..", words[i + column::HIGH] as usize)?;
+    output::number(out, b", rows ", words[i + column::SIZE] as usize)?;
     out.write_all(b"\n")
 }
 
@@ -81,11 +75,9 @@ fn refusals(out: &mut impl Write, words: &[u32], count: usize) -> io::Result<()>
 fn show(out: &mut impl Write, label: &[u8], words: &[u32], count: usize) -> io::Result<()> {
     let mut roots = [9usize; 3];
     out.write_all(label)?;
-    let r = rows::tops(words, count, &mut roots);
-    match r {
-        TopsAnswer::Count(n) => output::number(out, b": ", n),
-        TopsAnswer::NoSubtree(at) => refused(out, 13, at),
-        TopsAnswer::NoRoom(n) => refused(out, 6, n),
+    match rows::tops(words, count, &mut roots) {
+        Ok(n) => output::number(out, b": ", n),
+        Err(e) => refused(out, e),
     }?;
     output::number(out, b", words ", roots[0])?;
     output::number(out, b" ", roots[1])?;
@@ -93,11 +85,6 @@ fn show(out: &mut impl Write, label: &[u8], words: &[u32], count: usize) -> io::
     out.write_all(b"\n")
 }
 
-fn refused(out: &mut impl Write, code: usize, gives: usize) -> io::Result<()> {
-    output::number(out, b": refused ", code)?;
-    output::number(out, b" ", gives)
-}
-
-fn wide(x: u32) -> usize {
-    x as usize
+fn refused(out: &mut impl Write, e: TopsError) -> io::Result<()> {
+    write!(out, ": refused {} {}", e.number(), e.gives())
 }

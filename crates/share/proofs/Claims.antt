@@ -10,10 +10,12 @@ use borrow.Author.Tests.{eq-eqb, eqb-true, ltb-true, ltb-false}
 use lib.Dec.{ltb, eqb}
 use lib.ListN.{length, length-take, get_or-eq_default}
 use Rattle.reading.specs.Table.{Answer, answered, refused, max_text}
+use Rattle.std.specs.Prelude.{Result}
 use Rattle.share.specs.Answers.{told}
 use Rattle.share.specs.Claims.{All, all_trivia, all_bytes, Lowest, Ordered, Out, listed, Answered, Refused, too_many as more_texts, wrong_text, Claimed}
 use Rattle.share.specs.Shares.{Fraction, Shares, max_texts, texts, trivia_of, length_of, wrong, or_else, first_wrong, sum, gcd, share, ahead, ranked, result, pooled, largest, shares}
-use Rattle.share.specs.declared.SharesAnswer.{SharesAnswer}
+use Rattle.share.specs.declared.SharesError.{SharesError}
+use Rattle.share.specs.declared.SharesFound.{SharesFound}
 use Rattle.share.proofs.Divisors.{Gcd, gcd_known, gcd_positive, reduced_lowest, lowest_one, none_of, share_none, share_some, some_left}
 use Rattle.share.proofs.Order.{ranked_ordered, ranked_has, take_ordered, out_behind, behind_smaller}
 use Rattle.share.proofs.Ranks.{ranked_length, ranked_before, take_all}
@@ -188,7 +190,7 @@ module _ (w : List ℕ) where
           subst (λ (a : Answer Shares). Claimed w a) (none_wrong w few q) (answer_claims few q)
 
 -- any call that meets its contract
-pub shares_claims : (w : List ℕ) (r : SharesAnswer) → told r ≡ shares w → Claimed w (told r)
+pub shares_claims : (w : List ℕ) (r : Result SharesFound SharesError) → told r ≡ shares w → Claimed w (told r)
 shares_claims w r m = subst (λ (a : Answer Shares). Claimed w a) (sym m) (claimed w)
 
 -- a list to which neither 27 nor 28 applies is answered, by any call that the page holds of

@@ -6,10 +6,9 @@ use mathlib.Core.Option.{none, some}
 use Prim.Native.Nat.{ℕ, zero, suc, ◌+◌, ◌*◌, ◌^◌, min, max, ◌≤◌, ◌<◌}
 use native.Mathlib.Omega.{arith}
 use native.Mathlib.Nat.{mul-le-mul}
-use borrow.Author.Tests.{lt-ltb, le-ltb, ltb-true, ltb-false}
+use borrow.Author.Tests.{ltb-true, ltb-false}
 use lib.Dec.{ltb}
 use Rattle.share.specs.Shares.{or_else, wrong, first_wrong, trivia_of, length_of, sum, larger}
-use Rattle.share.specs.Steps.{below}
 
 -- Sums ------------------------------------------------------------------------
 
@@ -74,11 +73,11 @@ module _ (w : List ℕ) where
       go true q g = rw (g (ltb-true i n q))
       go false q g = subst (λ (k : ℕ). or_else (first_wrong w k) (cond (wrong (trivia_of w k) (length_of w k)) (some k) none) ≡ some i) (let u : i ≡ n = omega (arith, ltb-false i n q) in u) (rw (e, f))
 
-  pub wrong_found : (i n t l : ℕ) → i < n → first_wrong w i ≡ none → t ≡ trivia_of w i → l ≡ length_of w i → wrong t l ≡ true → below i n ≡ first_wrong w n
-  wrong_found i n t l h e g k q = rw (lt-ltb i n h) (sym (first_stays i n h e (asked i t l true g k q)))
+  pub wrong_found : (i n t l : ℕ) → i < n → first_wrong w i ≡ none → t ≡ trivia_of w i → l ≡ length_of w i → wrong t l ≡ true → some i ≡ first_wrong w n
+  wrong_found i n t l h e g k q = sym (first_stays i n h e (asked i t l true g k q))
 
-  pub none_found : (i n : ℕ) → first_wrong w i ≡ none → i ≤ n → n ≤ i → below n n ≡ first_wrong w n
-  none_found i n e h k = rw (le-ltb n n (omega arith)) (sym (subst (λ (j : ℕ). first_wrong w j ≡ none) (let u : i ≡ n = omega arith in u) e))
+  pub none_found : (i n : ℕ) → first_wrong w i ≡ none → i ≤ n → n ≤ i → none ≡ first_wrong w n
+  none_found i n e h k = sym (subst (λ (j : ℕ). first_wrong w j ≡ none) (let u : i ≡ n = omega arith in u) e)
 
 -- Products --------------------------------------------------------------------
 

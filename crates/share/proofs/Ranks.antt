@@ -1,10 +1,10 @@
 -- The three largest, one text after another: of the texts in order the front alone is kept.
 use mathlib.Core.Path.{◌≡◌, refl, ap, sym, subst, ◌∙◌}
-use mathlib.Core.Bool.{Bool, true, false, not, ◌||◌, cond, and-false, or-false, true≢false}
+use mathlib.Core.Bool.{Bool, true, false, not, ◌||◌, cond, and-false, or-false, or-true, true≢false}
 use mathlib.Core.List.{List, [], ◌∷◌}
 use Prim.Native.Nat.{ℕ, zero, suc, ◌+◌, min, ◌≤◌, ◌<◌}
 use native.Mathlib.Omega.{arith}
-use borrow.Author.Tests.{le-ltb}
+use borrow.Author.Tests.{lt-ltb, le-ltb}
 use lib.Dec.{ltb}
 use lib.ListN.{length, take, get_or, length-take}
 use lib.Seq.{take-take}
@@ -161,6 +161,16 @@ module _ (w : List ℕ) (i : ℕ) where
       put_none n o e =
           of_list (λ k. k) (λ k. (ltb k.count 1 || x ≡ false) × (ltb k.count 2 || y ≡ false) × (ltb k.count 3 || z ≡ false))
           (λ js h b v t. no_place js h b v t.0 t.1 t.2) (n, o, e)
+
+-- the code asks for a share only where there is one
+pub there_are_fewer : {n k : ℕ} (b : Bool) → n < k → ltb n k || b ≡ true
+there_are_fewer {n} {k} b h = rw (lt-ltb n k h)
+
+pub is_larger : (n k : ℕ) {x b : Bool} → x ≡ b → x ≡ true → ltb n k || b ≡ true
+is_larger n k {x} {b} e h = rw (sym e ∙ h) (or-true (ltb n k))
+
+pub is_not : {n k : ℕ} {x b : Bool} → k ≤ n → x ≡ b → x ≡ false → ltb n k || b ≡ false
+is_not {n} {k} {x} {b} h e f = rw (le-ltb n k h, sym e ∙ f)
 
 -- Text after text -------------------------------------------------------------
 

@@ -5,8 +5,8 @@ use mathlib.Core.Option.{none, some}
 use Prim.Native.Nat.{ℕ, ◌≤◌, ◌<◌}
 use borrow.Author.Tests.{lt-ltb, le-ltb}
 use Rattle.reading.specs.Table.{answered, refused}
-use Rattle.share.specs.Shares.{Fraction, Shares, max_texts, texts, trivia_of, length_of, first_wrong, sum, share, result, pooled, largest, shares}
-use Rattle.share.specs.Steps.{fraction, largest_of, below}
+use Rattle.share.specs.Shares.{Fraction, Shares, max_texts, texts, first_wrong, result, pooled, largest, shares}
+use Rattle.share.specs.Steps.{fraction, largest_of}
 use Rattle.share.specs.declared.Fraction.{Fraction as Reduced}
 use Rattle.share.specs.declared.Largest.{Largest}
 
@@ -24,26 +24,19 @@ module _ (w : List ℕ) where
     unfolding shares
     none_wrong e = rw (le-ltb max_texts (texts w) few, e)
 
-    -- the same with what the code found: an index, a fraction and the largest
-    module _ (i : ℕ) (e : below i (texts w) ≡ first_wrong w (texts w)) where
-      pub wrong_found : i < texts w → refused 28 i ≡ shares w
-      wrong_found h = some_wrong i (sym e ∙ rw (lt-ltb i (texts w) h))
+    -- the two parts of an answer
+    abbrev joined : Fraction → Largest → Shares
+    joined x l =
+        record {
+          numerator = x.numerator;
+          denominator = x.denominator;
+          count = l.count;
+          first = l.first;
+          second = l.second;
+          third = l.third;
+        }
 
-      -- the two parts of an answer
-      abbrev joined : Fraction → Largest → Shares
-      joined x l =
-          record {
-            numerator = x.numerator;
-            denominator = x.denominator;
-            count = l.count;
-            first = l.first;
-            second = l.second;
-            third = l.third;
-          }
-
-      pub all_found : (f : Reduced) (a b : ℕ) (l : Largest) → texts w ≤ i → a ≡ sum (trivia_of w) (texts w) → b ≡ sum (length_of w) (texts w)
-          → fraction f ≡ share a b → l ≡ largest_of (largest w) → answered (joined (fraction f) l) ≡ shares w
-      all_found f a b l h p q r s =
-          let u : fraction f ≡ pooled w = r ∙ ap (λ (k : ℕ). share k b) p ∙ ap (λ (k : ℕ). share (sum (trivia_of w) (texts w)) k) q in
-          ap (λ (x : Fraction). answered (joined x l)) u ∙ ap (λ (y : Largest). answered (joined (pooled w) y)) s
-          ∙ none_wrong (sym e ∙ rw (le-ltb i (texts w) h))
+    -- the same with a fraction and the largest that the code found
+    pub all_found : (f : Reduced) (l : Largest) → none ≡ first_wrong w (texts w) → fraction f ≡ pooled w → l ≡ largest_of (largest w)
+        → answered (joined (fraction f) l) ≡ shares w
+    all_found f l e r s = ap (λ (x : Fraction). answered (joined x l)) r ∙ ap (λ (y : Largest). answered (joined (pooled w) y)) s ∙ none_wrong (sym e)

@@ -6,21 +6,23 @@ use Prim.Native.Nat.{ℕ, zero, suc, ◌+◌, ◌-◌, min, ◌≤◌, ◌<◌}
 use native.Mathlib.Omega.{arith}
 use borrow.Author.Tests.{lt-ltb, le-ltb, ltb-true, ltb-false}
 use lib.Dec.{ltb, eqb}
-use lib.ListN.{length, get_or, length-append, get_or-append}
+use lib.ListN.{length, get_or, take, length-append}
+use lib.Seq.{length-take-le}
+use Rattle.std.proofs.lemmas.List.{take_at}
 use Rattle.reading.specs.Items.{Listed}
 use Rattle.reading.specs.Table.{Answer, answered, refused, max_text, room, row_width, filled}
 use Rattle.reading.specs.Walk.{Subtree, walk, size_at}
-use Rattle.rows.specs.Answers.{told_tops, listed}
-use Rattle.rows.specs.declared.TopsAnswer.{TopsAnswer}
+use Rattle.std.specs.Prelude.{Result}
+use Rattle.rows.specs.Answers.{listed}
 use Rattle.rows.specs.Tops.{more_tops, tops_from, top_rows, tops_settled, tops_listed, Covers, none, subtree}
 use Rattle.rows.proofs.Cover.{tops_cover}
 use Rattle.rows.proofs.Turns.{walk_less}
 use Rattle.share.specs.Answers.{told_text, told_words}
 use Rattle.share.specs.Claims.{NoWords, no_subtree, no_room, wrong_words, Taken}
-use Rattle.share.specs.Shares.{sum, wrong}
-use Rattle.share.specs.Words.{Text, Told, trivia_at, trivia_sum, text_answer, rows_of, unless_refused, told_over, text_words}
-use Rattle.share.specs.declared.TextAnswer.{TextAnswer}
-use Rattle.share.proofs.Pool.{sum_same}
+use Rattle.share.specs.Shares.{wrong}
+use Rattle.share.specs.Words.{Text, Told, trivia_sum, text_answer, rows_of, unless_refused, told_over, text_words}
+use Rattle.share.specs.declared.TextWords.{TextWords}
+use Rattle.share.specs.declared.WordsError.{WordsError}
 
 -- Where top rows stand --------------------------------------------------------
 
@@ -43,16 +45,11 @@ covers_inside t (subtree e c) (suc k) h = covers_inside t c k (omega arith)
 -- so many top rows, those of a list, stand at the front of the table, and each of them is a row
 pub record Inside (rows rs : List ℕ) (n : ℕ) (roots : List ℕ) : Type 0 where
   pub many : n ≤ length roots
-  pub each : (k : ℕ) → k < n → get_or roots k 0 < room row_width rows
-  pub same : sum (λ k. trivia_at rows (get_or roots k 0)) n ≡ trivia_sum rows rs
+  pub are : take n roots ≡ rs
+  pub each : (k : ℕ) → k < length rs → get_or rs k 0 < room row_width rows
 
 covers_listed : (rows rs zs : List ℕ) {b n : ℕ} → Covers rows b rs n → Inside rows rs (length rs) (rs ++ zs)
-covers_listed rows rs zs c =
-    record {
-      many = omega (arith, length-append rs zs);
-      each = λ k h. subst (λ (r : ℕ). r < room row_width rows) (sym (get_or-append rs zs 0 k h)) (covers_inside rows c k h);
-      same = sum_same (length rs) (λ k h. ap (trivia_at rows) (get_or-append rs zs 0 k h));
-    }
+covers_listed rows rs zs c = record { many = omega (arith, length-append rs zs); are = take_at rs zs (length rs) refl; each = covers_inside rows c }
 
 pub tops_inside : (rows : List ℕ) (count n : ℕ) (roots after : List ℕ) → listed (answered n) after ≡ tops_listed rows count roots
     → Inside rows (rows_of (top_rows rows count)) n after
@@ -72,11 +69,15 @@ tops_inside rows count n roots after e = go (top_rows rows count) refl e
             subst (λ (m : ℕ). Inside rows rs m after) (sym u)
             (subst (λ (t : List ℕ). Inside rows rs (length rs) t) (sym (ap (λ (x : Listed). x.table) e)) (covers_listed rows rs _ (tops_cover rows count rs q)))
 
--- The answer ------------------------------------------------------------------
+-- the front of the table, which is read
+pub front_long : {rows rs roots : List ℕ} {n : ℕ} → Inside rows rs n roots → n ≡ length (take n roots)
+front_long {rows} {rs} {roots} {n} u = sym (length-take-le n roots u.many)
 
--- what `tops` is known to answer
-pub tops_told : (r x : TopsAnswer) (t : List ℕ) (y : Listed) → r ≡ x → listed (told_tops r) t ≡ y → listed (told_tops x) t ≡ y
-tops_told r x t y e h = subst (λ (a : TopsAnswer). listed (told_tops a) t ≡ y) e h
+pub front_rows : {rows rs roots : List ℕ} {n : ℕ} → Inside rows rs n roots → (k : ℕ) → k < length (take n roots) → get_or (take n roots) k 0 < room row_width rows
+front_rows {rows} {rs} {roots} {n} u =
+    subst (λ (xs : List ℕ). (k : ℕ) → k < length xs → get_or xs k 0 < room row_width rows) (sym u.are) u.each
+
+-- The answer ------------------------------------------------------------------
 
 module _ (text rows roots after : List ℕ) (count : ℕ) where
   abbrev words_told : Answer Text → Told
@@ -101,9 +102,9 @@ module _ (text rows roots after : List ℕ) (count : ℕ) where
     too_long h = told_answer (refused 28 0) (rw (lt-ltb max_text (length text) h, or-true (ltb (length text) total)))
 
     -- the trivia that was counted in the table
-    module _ (trivia : ℕ) (t : trivia ≡ min (sum (λ k. trivia_at rows (get_or after k 0)) n) (suc (length text))) where
+    module _ (trivia : ℕ) (t : trivia ≡ min (trivia_sum rows (take n after)) (suc (length text))) where
       counted : trivia ≡ min total (suc (length text))
-      counted = t ∙ ap (λ (m : ℕ). min m (suc (length text))) (tops_inside rows count n roots after e).same
+      counted = t ∙ ap (λ (rs : List ℕ). min (trivia_sum rows rs) (suc (length text))) (tops_inside rows count n roots after e).are
 
       pub too_much : length text < trivia → words_told (refused 28 0) ≡ text_words text rows count roots
       too_much h = told_answer (refused 28 0) (rw (lt-ltb (length text) total (omega (arith, counted))))
@@ -161,6 +162,6 @@ words_taken text rows roots count = go (top_rows rows count) refl (trivia_sum ro
         room_for false p = text_taken count roots t (length text)
 
 -- any call that meets its contract
-pub text_words_taken : (text rows roots after : List ℕ) (count : ℕ) (r : TextAnswer) → told_words r after ≡ text_words text rows count roots
+pub text_words_taken : (text rows roots after : List ℕ) (count : ℕ) (r : Result TextWords WordsError) → told_words r after ≡ text_words text rows count roots
     → Taken count roots (told_text r)
 text_words_taken text rows roots after count r m = subst (λ (x : Told). Taken count roots x.answer) (sym m) (words_taken text rows roots count)

@@ -1,28 +1,51 @@
 -- What the answers of the calls say in document 02's numbers.
-use Rattle.std.specs.Prelude.{List, ℕ}
+use Rattle.std.specs.Prelude.{List, ℕ, Result, Ok, Err}
 use Rattle.reading.specs.Table.{Answer, answered, refused}
+use Rattle.rows.specs.Answers.{number_of, gives_of}
 use Rattle.share.specs.Shares.{Shares}
 use Rattle.share.specs.Words.{Text, Told}
 use Rattle.share.specs.declared.SharesFound.{SharesFound}
-use Rattle.share.specs.declared.SharesAnswer.{SharesAnswer}
-use Rattle.share.specs.declared.SharesAnswer.TheVariants.{Found, TooManyTexts, WrongText}
-use Rattle.share.specs.declared.TextAnswer.{TextAnswer}
-use Rattle.share.specs.declared.TextAnswer.TheVariants.{Words as words, NoSubtree, NoRoom, WrongText as wrong_text}
+use Rattle.share.specs.declared.SharesError.{SharesError}
+use Rattle.share.specs.declared.SharesError.TheVariants.{TooManyTexts, WrongText}
+use Rattle.share.specs.declared.TextWords.{TextWords}
+use Rattle.share.specs.declared.WordsError.{WordsError}
+use Rattle.share.specs.declared.WordsError.TheVariants.{Tops, WrongText as wrong_text}
+
+abbrev pub shares_number : SharesError → ℕ
+shares_number (TooManyTexts n) = 27
+shares_number (WrongText i) = 28
+
+abbrev pub shares_gives : SharesError → ℕ
+shares_gives (TooManyTexts n) = n
+shares_gives (WrongText i) = i
+
+-- what `tops` refuses is refused as it is. 28 as for a list that has this text alone, so it gives 0
+abbrev pub words_number : WordsError → ℕ
+words_number (Tops e) = number_of e
+words_number wrong_text = 28
+
+abbrev pub words_gives : WordsError → ℕ
+words_gives (Tops e) = gives_of e
+words_gives wrong_text = 0
 
 abbrev pub found_shares : SharesFound → Shares
 found_shares x =
-    record { numerator = x.numerator; denominator = x.denominator; count = x.count; first = x.first; second = x.second; third = x.third }
+    record {
+      numerator = x.pooled.numerator;
+      denominator = x.pooled.denominator;
+      count = x.largest.count;
+      first = x.largest.first;
+      second = x.largest.second;
+      third = x.largest.third;
+    }
 
-abbrev pub told : SharesAnswer → Answer Shares
-told (Found x) = answered (found_shares x)
-told (TooManyTexts n) = refused 27 n
-told (WrongText i) = refused 28 i
+abbrev pub told : Result SharesFound SharesError → Answer Shares
+told (Ok x) = answered (found_shares x)
+told (Err e) = refused (shares_number e) (shares_gives e)
 
-abbrev pub told_text : TextAnswer → Answer Text
-told_text (words x) = answered (record { trivia = x.trivia; length = x.length })
-told_text (NoSubtree n) = refused 13 n
-told_text (NoRoom n) = refused 6 n
-told_text wrong_text = refused 28 0
+abbrev pub told_text : Result TextWords WordsError → Answer Text
+told_text (Ok x) = answered (record { trivia = x.trivia; length = x.length })
+told_text (Err e) = refused (words_number e) (words_gives e)
 
-abbrev pub told_words : TextAnswer → List ℕ → Told
+abbrev pub told_words : Result TextWords WordsError → List ℕ → Told
 told_words a t = record { answer = told_text a; table = t }

@@ -1,5 +1,5 @@
 -- What the parts of the calls promise one another.
-use Rattle.std.specs.Prelude.{◌≡◌, cond, List, ℕ, ◌≤◌, ◌<◌, ltb, length, take, get_or}
+use Rattle.std.specs.Prelude.{◌≡◌, List, ℕ, ◌≤◌, ◌<◌, length, take, get_or, Option as Found, Some, None}
 use Rattle.std.proofs.Math.Option.{Option, none, some}
 use Rattle.share.specs.Claims.{All}
 use Rattle.share.specs.Shares.{Fraction, placed}
@@ -21,6 +21,7 @@ largest_of is = record { count = length is; first = get_or is 0 0; second = get_
 abbrev pub With : List ℕ → ℕ → Largest → Largest → Type 0
 With w i l r = (js : List ℕ) → l ≡ largest_of js → length js ≤ 3 → Before i js → r ≡ largest_of (take 3 (placed w i js))
 
--- an index below n, or none
-abbrev pub below : ℕ → ℕ → Option ℕ
-below i n = cond (ltb i n) (some i) none
+-- an index that was found
+abbrev pub found_at : Found ℕ → Option ℕ
+found_at (Some i) = some i
+found_at None = none

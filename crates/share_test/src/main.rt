@@ -3,12 +3,11 @@
 // differ.
 #![tactic(auto)]
 
-ghost use Rattle.std.specs.Prelude.{◌≤◌, ◌<◌, length};
-
-use output::Tally;
+use fields::Fields;
 use parser::Answer;
-use rows::Counted;
-use share::{SharesAnswer, TextAnswer};
+use reading::Refusal;
+use rows::TopsError;
+use share::{Fraction, Largest, SharesError, SharesFound, TextWords, WordsError};
 use std::io;
 use std::io::{BufWriter, Read, Write};
 use table::{ERROR, REQUEST, ROW};
@@ -16,144 +15,79 @@ use table::{ERROR, REQUEST, ROW};
 // The longest input; what lies behind it is not read.
 const LONGEST: u64 = 65536;
 
-// The outcome that is expected of a list, how many words it has, and the place of its texts.
+// The outcome that is expected of a list, and how many words it has.
 #[derive(Clone, Copy)]
 struct Expected {
     refusal: usize,
     given: usize,
-    numerator: usize,
-    denominator: usize,
-    count: usize,
-    first: usize,
-    second: usize,
-    third: usize,
+    found: SharesFound,
     words: usize,
-    next: usize,
 }
 
 fn main(rt: HostRuntime) -> io::Result<()> {
     let mut out = BufWriter::new(rt.alloc(), io::writer(&rt))?;
     let mut input = Vec::new(rt.alloc());
     rt.reader().take(LONGEST).read_to_end(&mut input)?;
-    lines(&mut out, &input)?;
+    output::replay(&mut out, &input, case)?;
     out.flush()
 }
 
-fn lines(out: &mut impl Write, input: &[u8]) -> io::Result<()> {
-    let mut tally = output::no_cases();
-    let mut at: usize = 0;
-    while at < input.len() {
-        let next = fields::behind(input, at, b'\n');
-        tally = line(out, input, at, next, tally)?;
-        at = next;
-    }
-    Ok(())
-}
-
-// A case; or the name of the cases before it, behind a `#`.
-fn line(
-    out: &mut impl Write,
-    input: &[u8],
-    at: usize,
-    next: usize,
-    tally: Tally,
-) -> io::Result<Tally>
-    requires { (at < next) × (next ≤ length input.now) }
-{
-    if input[at] == b'#' {
-        return output::named(out, tally, &input[at + 1..next]);
-    }
-    let same = case(input, at, next);
-    output::counted(out, tally, at, same)
-}
-
 // A list of texts is 0, a text is 1.
-fn case(input: &[u8], at: usize, next: usize) -> bool
-    requires { next ≤ length input.now }
-{
+fn case(line: &[u8]) -> bool {
     let mut words = [0u32; 2048];
     let mut bytes = [0u8; 256];
-    let kind = fields::field(input, at);
-    if kind.value == 0 {
-        return list(input, kind.next, next, &mut words);
+    let mut fields = Fields::new(line);
+    if fields.number() == 0 {
+        return list(&mut fields, &mut words);
     }
-    text(input, kind.next, next, &mut bytes)
+    text(&mut fields, &mut bytes)
 }
 
-fn list(input: &[u8], at: usize, next: usize, words: &mut [u32]) -> bool
-    requires { next ≤ length input.now }
-{
-    let e = expected_of(input, at);
+fn list(fields: &mut Fields, words: &mut [u32]) -> bool {
+    let e = expected_of(fields);
     let n = e.words;
-    let end = texts(input, e.next, next, words);
-    if end < n {
+    let end = texts(fields, words);
+    if end < n || words.len() < n {
         return false;
     }
-    if words.len() < n {
-        return false;
-    }
-    let r = share::shares(&words[..n]);
-    as_expected(e, r)
+    as_expected(e, share::shares(&words[..n]))
 }
 
-fn as_expected(e: Expected, r: SharesAnswer) -> bool {
+fn as_expected(e: Expected, r: Result<SharesFound, SharesError>) -> bool {
     match r {
-        SharesAnswer::Found(x) => {
-            (e.refusal == 0)
-                & (e.numerator as u64 == x.numerator)
-                & (e.denominator as u64 == x.denominator)
-                & (e.count == x.count)
-                & (e.first == x.first)
-                & (e.second == x.second)
-                & (e.third == x.third)
-        }
-        SharesAnswer::TooManyTexts(n) => (e.refusal == 27) & (e.given == n),
-        SharesAnswer::WrongText(i) => (e.refusal == 28) & (e.given == i),
+        Ok(x) => e.refusal == 0 && e.found == x,
+        Err(x) => e.refusal == x.number() as usize && e.given == x.gives(),
     }
 }
 
-fn expected_of(input: &[u8], at: usize) -> Expected {
-    let refusal = fields::field(input, at);
-    let given = fields::field(input, refusal.next);
-    let numerator = fields::field(input, given.next);
-    let denominator = fields::field(input, numerator.next);
-    let count = fields::field(input, denominator.next);
-    let first = fields::field(input, count.next);
-    let second = fields::field(input, first.next);
-    let third = fields::field(input, second.next);
-    let words = fields::field(input, third.next);
+fn expected_of(fields: &mut Fields) -> Expected {
     Expected {
-        refusal: refusal.value,
-        given: given.value,
-        numerator: numerator.value,
-        denominator: denominator.value,
-        count: count.value,
-        first: first.value,
-        second: second.value,
-        third: third.value,
-        words: words.value,
-        next: words.next,
+        refusal: fields.number(),
+        given: fields.number(),
+        found: SharesFound {
+            pooled: Fraction {
+                numerator: fields.number() as u64,
+                denominator: fields.number() as u64,
+            },
+            largest: Largest {
+                count: fields.number(),
+                first: fields.number(),
+                second: fields.number(),
+                third: fields.number(),
+            },
+        },
+        words: fields.number(),
     }
 }
 
-// Puts the texts of a line into the list; the place behind them. A run is how often a text comes, its trivia and its length.
-fn texts(input: &[u8], from: usize, next: usize, words: &mut [u32]) -> usize
-    requires { next ≤ length input.now }
-{
-    let mut at = from;
+// Puts the texts that are left of a line into the list; the place behind them. A run is how often a text comes, its trivia and its length.
+fn texts(fields: &mut Fields, words: &mut [u32]) -> usize {
     let mut end: usize = 0;
-    while at < next {
-        let times = fields::field(input, at);
-        let trivia = fields::field(input, times.next);
-        let length = fields::field(input, trivia.next);
-        end = put(
-            words,
-            end,
-            times.value,
-            word(trivia.value),
-            word(length.value),
-        );
-        at = length.next;
+    while !fields.is_empty() {
+        let times = fields.number();
+        let trivia = word(fields.number());
+        let length = word(fields.number());
+        end = put(words, end, times, trivia, length);
     }
     end
 }
@@ -165,29 +99,22 @@ fn word(n: usize) -> u32 {
 // Puts so many of a text into the list from a place on, as far as there is room; the place behind them.
 fn put(words: &mut [u32], at: usize, times: usize, trivia: u32, length: u32) -> usize {
     let mut i = at;
-    let mut left = times;
-    while i < words.len() {
-        if left == 0 {
-            break;
-        }
-        if words.len() - i < 2 {
+    for _ in 0..times {
+        if words.len() <= i || words.len() - i < 2 {
             break;
         }
         words[i] = trivia;
         words[i + 1] = length;
-        left -= 1;
         i += 2;
     }
     i
 }
 
-fn text(input: &[u8], at: usize, next: usize, bytes: &mut [u8]) -> bool
-    requires { next ≤ length input.now }
-{
-    let trivia = fields::field(input, at);
-    let length = fields::field(input, trivia.next);
-    let n = fields::runs(input, length.next, next, bytes, 0);
-    read(&bytes[..n], trivia.value, length.value)
+fn text(fields: &mut Fields, bytes: &mut [u8]) -> bool {
+    let trivia = fields.number();
+    let length = fields.number();
+    let n = fields.runs(bytes, 0);
+    read(&bytes[..n], trivia, length)
 }
 
 // The two words from the text's reading.
@@ -212,8 +139,7 @@ fn words(
     length: usize,
     roots: &mut [usize],
 ) -> bool {
-    let counted = rows::top_count(rows, count);
-    let Counted::Tops(n) = counted else {
+    let Ok(n) = rows::top_count(rows, count) else {
         return false;
     };
     if n == 0 {
@@ -221,31 +147,23 @@ fn words(
     }
     let a = within(text, rows, count, roots, n);
     let b = within(text, rows, count, roots, n - 1);
-    answered(a, trivia, length) & no_room(b, n)
+    answered(a, trivia, length) && b == Err(WordsError::Tops(TopsError::NoRoom(n)))
 }
 
 // Lends so many words for the top rows.
-fn within(text: &[u8], rows: &[u32], count: usize, roots: &mut [usize], n: usize) -> TextAnswer {
+fn within(
+    text: &[u8],
+    rows: &[u32],
+    count: usize,
+    roots: &mut [usize],
+    n: usize,
+) -> Result<TextWords, WordsError> {
     if roots.len() < n {
-        return TextAnswer::WrongText;
+        return Err(WordsError::WrongText);
     }
     share::text_words(text, rows, count, &mut roots[..n])
 }
 
-fn answered(a: TextAnswer, trivia: usize, length: usize) -> bool {
-    let TextAnswer::Words(x) = a else {
-        return false;
-    };
-    (wide(x.trivia) == trivia) & (wide(x.length) == length)
-}
-
-fn no_room(a: TextAnswer, n: usize) -> bool {
-    let TextAnswer::NoRoom(need) = a else {
-        return false;
-    };
-    need == n
-}
-
-fn wide(x: u32) -> usize {
-    x as usize
+fn answered(a: Result<TextWords, WordsError>, trivia: usize, length: usize) -> bool {
+    a.is_ok_and(|x| x.trivia as usize == trivia && x.length as usize == length)
 }

@@ -74,7 +74,7 @@ replaced_length t n a b z = go (ltb n (room row_width t))
     go true = length-sets t (n * row_width + tlow_column) (a ∷ b ∷ z ∷ [])
     go false = refl
 
-in_room : (w : ℕ) (t : List ℕ) (n : ℕ) → n < room w t → n * w + w ≤ length t
+pub in_room : (w : ℕ) (t : List ℕ) (n : ℕ) → n < room w t → n * w + w ≤ length t
 in_room w t n h = omega (arith, mul-le-mul_right w h, suc-mul n w, div-mul-le_self (length t) w)
 
 -- What a table holds -------------------------------------------------------

@@ -1,22 +1,35 @@
--- Zeroing from a place on, one word a turn.
-use mathlib.Core.Path.{◌≡◌}
-use mathlib.Core.List.{List, ◌++◌, append-nil}
-use Prim.Native.Nat.{ℕ, suc, ◌+◌, ◌-◌, ◌≤◌, ◌<◌}
-use native.Mathlib.Numerals.{add-one}
-use native.Mathlib.Omega.{arith}
-use lib.ListN.{length, take, set, length-set}
-use lib.Seq.{take-suc-set, take_all, append_snoc}
-use Rattle.reading.specs.Table.{zeros}
+-- Words that are written at once: zeros, and a record.
+use Rattle.std.proofs.Common.{◌≡◌, refl, ap, sym, ◌∙◌, List, ◌∷◌, ◌++◌, ℕ, zero, suc, ◌+◌, ◌*◌, ◌-◌, ◌≤◌, ◌<◌, length, take, drop, replicate, append-nil, append_assoc, arith}
+use Rattle.std.proofs.lemmas.List.{drop-drop, drop_all, length-drop}
+use Rattle.std.proofs.lemmas.List.Edits.{sets-eq}
+use borrow.Rule.Slice.PartMut.{put_mid}
+use borrow.Author.Tests.{lt-ltb}
+use lib.Seq.{length-take-le, take_all}
+use Rattle.reading.specs.Table.{zeros, room}
+use Rattle.table.specs.Words.{pushed}
+use Rattle.table.proofs.Holds.{in_room}
+
+pub zeros_are : (n : ℕ) → replicate n 0 ≡ zeros n
+zeros_are zero = refl
+zeros_are (suc n) = ap (0 ∷◌) (zeros_are n)
 
 abbrev pub zeroed : List ℕ → ℕ → List ℕ
 zeroed t i = take i t ++ zeros (length t - i)
 
-pub zeroed_set : (t : List ℕ) (i : ℕ) → i < length t → zeroed (set t i 0) (i + 1) ≡ zeroed t i
-zeroed_set t i h =
-    let e : length t - i ≡ suc (length t - suc i) = omega arith in
-    rw (add-one i, length-set t i 0, take-suc-set t i 0, e, append_snoc)
-
 pub zeroed_end : (t : List ℕ) (i : ℕ) → length t ≤ i → zeroed t i ≡ t
 zeroed_end t i h =
-    let e : length t - i ≡ 0 = omega arith in
-    rw (take_all i t, e, append-nil)
+    let e : length t - i ≡ zero = omega arith in
+    rw (take_all i t h, e, append-nil)
+
+-- a part that is filled with zeros, to the table's end
+pub zeroed_part : (t v : List ℕ) (i : ℕ) → i ≤ length t → v ≡ replicate (length (take (length t - i) (drop i t))) 0 → put_mid i (length t - i) t v ≡ zeroed t i
+zeroed_part t v i h f =
+    rw
+    (f, length-take-le (length t - i) (drop i t) (omega (arith, length-drop i t)), drop-drop (length t - i) i t, zeros_are (length t - i), drop_all (i + (length t - i)) t (omega arith), append-nil)
+
+-- words that are copied into a part of the table
+pub copied : (t ws v : List ℕ) (n w k : ℕ) → length ws ≡ w → k ≡ w → v ≡ ws → n < room w t → put_mid (n * w) k t v ≡ pushed w t n ws
+unfolding pushed
+copied t ws v n w k e f g h =
+    rw (lt-ltb n (room w t) h, g, f, drop-drop w (n * w) t, ← e)
+    (sym (append_assoc (take (n * length ws) t) ws _) ∙ sym (sets-eq ws t (n * length ws) (omega (arith, in_room (length ws) t n (rw e h)))))

@@ -11,18 +11,20 @@ ghost use Rattle.table.specs.Kinds.{kind_number};
 ghost use Rattle.table.specs.Words.{pushed, replaced, row_record, error_record, request_record};
 ghost use Rattle.table.specs.Answers.{told};
 
+use reading::Refusal;
+
 pub mod column;
 
 // A byte's place in the text, the Rust's Pos.
-#[derive(Clone, Copy)]
+#[derive(Clone, Copy, Debug, PartialEq, Eq)]
 pub struct Pos(pub usize);
 
 // A row's number, counted from 0.
-#[derive(Clone, Copy)]
+#[derive(Clone, Copy, Debug, PartialEq, Eq)]
 pub struct RowIndex(pub usize);
 
 // The kinds of rows: the cases of Token, of ExpressionFactor, and the other Located values, in the order of ast.rs. A row has the number.
-#[derive(Clone, Copy)]
+#[derive(Clone, Copy, Debug, PartialEq, Eq)]
 pub enum Kind {
     Align = 1,
     Assert,
@@ -133,29 +135,31 @@ pub fn place_row(rows: &mut [u32], n: RowIndex, tlow: Pos, low: Pos, high: Pos)
     }
 }
 
-// An error with this number, if the table has room for it.
+// A record with this number, if the table has room for it.
+fn push<const W: usize>(table: &mut [u32], n: usize, words: &[u32; W])
+    requires { 0 < W }
+    ensures { table.new ≡ pushed W table.old n words.now }
+{
+    if n < table.len() / W {
+        let i = n * W;
+        table[i..i + W].copy_from_slice(words);
+    }
+}
+
+// An error.
 pub fn push_error(errors: &mut [u32], n: usize, code: usize, low: Pos, high: Pos)
     requires { (code < 2 ^ 32) × (low.0 < 2 ^ 32) × (high.0 < 2 ^ 32) }
     ensures { errors.new ≡ pushed error_width errors.old n (error_record code low.0 high.0) }
 {
-    if n < errors.len() / ERROR {
-        let i = n * ERROR;
-        errors[i] = code as u32;
-        errors[i + 1] = low.0 as u32;
-        errors[i + 2] = high.0 as u32;
-    }
+    push::<ERROR>(errors, n, &[code as u32, low.0 as u32, high.0 as u32]);
 }
 
-// A request with this number, if the table has room for it.
+// A request.
 pub fn push_request(requests: &mut [u32], n: usize, low: Pos, high: Pos)
     requires { (low.0 < 2 ^ 32) × (high.0 < 2 ^ 32) }
     ensures { requests.new ≡ pushed request_width requests.old n (request_record low.0 high.0) }
 {
-    if n < requests.len() / REQUEST {
-        let i = n * REQUEST;
-        requests[i] = low.0 as u32;
-        requests[i + 1] = high.0 as u32;
-    }
+    push::<REQUEST>(requests, n, &[low.0 as u32, high.0 as u32]);
 }
 
 // Zero in every word from this one on.
@@ -163,36 +167,48 @@ pub fn zero(words: &mut [u32], from: usize)
     requires { from ≤ length words.old }
     ensures { words.new ≡ take from words.old ++ zeros (length words.old - from) }
 {
-    let mut i = from;
-    while i < words.len() {
-        words[i] = 0;
-        i += 1;
-    }
+    words[from..].fill(0);
 }
 
-// The last subtree: its root's number and the count of the rows before it. Or 13, with the count.
-#[derive(Clone, Copy)]
-pub enum Walked {
-    Subtree(RowIndex, usize),
-    NoSubtree(usize),
+// The last subtree: its root's number and the count of the rows before it.
+#[derive(Clone, Copy, Debug, PartialEq, Eq)]
+pub struct Subtree {
+    pub root: RowIndex,
+    pub before: usize,
+}
+
+// No subtree ends behind so many rows.
+#[derive(Clone, Copy, Debug, PartialEq, Eq)]
+pub struct NoSubtree(pub usize);
+
+impl Refusal for NoSubtree {
+    ghost number = { λ _. 13 };
+
+    ghost gives = { λ e. e.0 };
+
+    fn number(&self) -> u32 {
+        13
+    }
+
+    fn gives(&self) -> usize {
+        self.0
+    }
 }
 
 // From a row count to the last subtree. Nothing is written.
-pub fn walk(rows: &[u32], count: usize) -> Walked
+pub fn walk(rows: &[u32], count: usize) -> Result<Subtree, NoSubtree>
     ensures { told result ≡ walk rows.now count }
 {
-    if count == 0 {
-        return Walked::NoSubtree(count);
+    if count == 0 || rows.len() / ROW < count {
+        return Err(NoSubtree(count));
     }
-    if rows.len() / ROW < count {
-        return Walked::NoSubtree(count);
+    let root = count - 1;
+    let size = rows[root * ROW + column::SIZE] as usize;
+    if size == 0 || count < size {
+        return Err(NoSubtree(count));
     }
-    let size = rows[(count - 1) * ROW + column::SIZE] as usize;
-    if size == 0 {
-        return Walked::NoSubtree(count);
-    }
-    if count < size {
-        return Walked::NoSubtree(count);
-    }
-    Walked::Subtree(RowIndex(count - 1), count - size)
+    Ok(Subtree {
+        root: RowIndex(root),
+        before: count - size,
+    })
 }

@@ -1,9 +1,9 @@
 // Walks row tables picked by hand with table::walk, and prints each answer.
 #![tactic(auto)]
 
+use reading::Refusal;
 use std::io;
 use std::io::{BufWriter, Write};
-use table::Walked;
 
 // The rows of `lda #1` and LF.
 const ROWS: [u32; 63] = [
@@ -69,10 +69,7 @@ fn damaged(out: &mut impl Write) -> io::Result<()> {
 fn show(out: &mut impl Write, label: &[u8], rows: &[u32], count: usize) -> io::Result<()> {
     out.write_all(label)?;
     match table::walk(rows, count) {
-        Walked::Subtree(root, before) => {
-            let root = root.0;
-            writeln!(out, ": root {root}, before {before}")
-        }
-        Walked::NoSubtree(n) => writeln!(out, ": refused 13 {n}"),
+        Ok(x) => writeln!(out, ": root {}, before {}", x.root.0, x.before),
+        Err(e) => writeln!(out, ": refused {} {}", e.number(), e.gives()),
     }
 }

@@ -14,10 +14,10 @@ use Rattle.parser.specs.declared.Answer.{Answer}
 use Rattle.parser.specs.declared.Answer.TheVariants.{Read, TooLong, HighByte, ScopeTooLarge, LevelTooLarge, TooDeep, NoRoomForRows, NoRoomForErrors, NoRoomForRequests}
 use Rattle.number.specs.Answers.{base_of, base_told, told as value_told}
 use Rattle.number.specs.declared.NumberType.{NumberType}
-use Rattle.number.specs.declared.Typed.{Typed}
-use Rattle.number.specs.declared.Typed.TheVariants.{Known, Unknown}
-use Rattle.number.specs.declared.Valued.{Valued}
-use Rattle.number.specs.declared.Valued.TheVariants.{Is, NotANumber, TooLarge}
+use Rattle.number.specs.declared.UnknownType.{UnknownType}
+use Rattle.number.specs.declared.ValueError.{ValueError}
+use Rattle.number.specs.declared.ValueError.TheVariants.{NotANumber, TooLarge}
+use Rattle.std.specs.Prelude.{Result, Ok, Err}
 use Rattle.trivia.specs.Answers.{listed, told as items_told}
 use Rattle.trivia.specs.declared.ItemsAnswer.{ItemsAnswer}
 use Rattle.trivia.specs.declared.ItemsAnswer.TheVariants.{Count, TooLong as too_long, HighByte as high_byte, NoItem, NoRoom}
@@ -69,17 +69,17 @@ read_shown {c} {t} {e} {q} {r} {x} m h = ap (λ (y : ReadNumbers). shown y t e q
 
 -- Number text to value ------------------------------------------------------
 
-pub no_type_shown : (t : Typed) (n : ℕ) (s : List ℕ) → base_told t ≡ base_numbered n → t ≡ Unknown → seen_value 10 0 ≡ exported_value (value_in (base_numbered n) s)
+pub no_type_shown : (t : Result NumberType UnknownType) (e : UnknownType) (n : ℕ) (s : List ℕ) → base_told t ≡ base_numbered n → t ≡ Err e → seen_value 10 0 ≡ exported_value (value_in (base_numbered n) s)
 unfolding exported_value value_in
-no_type_shown t n s h e = ap (λ (o : Option Base). exported_value (value_in o s)) (sym (ap base_told e) ∙ h)
+no_type_shown t e n s h i = ap (λ (o : Option Base). exported_value (value_in o s)) (sym (ap base_told i) ∙ h)
 
-value_numbers_shown : (v : Valued) → seen_value (numbered_value v).code (numbered_value v).value ≡ exported_value (value_told v)
+value_numbers_shown : (v : Result ℕ ValueError) → seen_value (numbered_value v).code (numbered_value v).value ≡ exported_value (value_told v)
 unfolding exported_value
-value_numbers_shown (Is n) = refl
-value_numbers_shown NotANumber = refl
-value_numbers_shown TooLarge = refl
+value_numbers_shown (Ok n) = refl
+value_numbers_shown (Err NotANumber) = refl
+value_numbers_shown (Err TooLarge) = refl
 
-pub value_shown : (t : Typed) (ty : NumberType) (n : ℕ) (s : List ℕ) (v : Valued) (x : ValueNumbers) → base_told t ≡ base_numbered n → t ≡ Known ty
+pub value_shown : (t : Result NumberType UnknownType) (ty : NumberType) (n : ℕ) (s : List ℕ) (v : Result ℕ ValueError) (x : ValueNumbers) → base_told t ≡ base_numbered n → t ≡ Ok ty
     → value_told v ≡ number_value (base_of ty) s → x ≡ numbered_value v → seen_value x.code x.value ≡ exported_value (value_in (base_numbered n) s)
 unfolding value_in
 value_shown t ty n s v x h e w g =

@@ -1,9 +1,9 @@
 -- The answers of the calls in numbers, case by case.
-use Rattle.std.specs.Prelude.{Bool, ℕ}
+use Rattle.std.specs.Prelude.{Bool, ℕ, Result, Ok, Err}
 use Rattle.parser.specs.declared.Answer.{Answer}
 use Rattle.parser.specs.declared.Answer.TheVariants.{Read, TooLong, HighByte, ScopeTooLarge, LevelTooLarge, TooDeep, NoRoomForRows, NoRoomForErrors, NoRoomForRequests}
-use Rattle.number.specs.declared.Valued.{Valued}
-use Rattle.number.specs.declared.Valued.TheVariants.{Is, NotANumber, TooLarge}
+use Rattle.number.specs.Answers.{refusal_number}
+use Rattle.number.specs.declared.ValueError.{ValueError}
 use Rattle.trivia.specs.declared.ItemsAnswer.{ItemsAnswer}
 use Rattle.trivia.specs.declared.ItemsAnswer.TheVariants.{Count, TooLong as too_long, HighByte as high_byte, NoItem, NoRoom}
 use Rattle.table.specs.declared.Walked.{Walked}
@@ -35,10 +35,9 @@ numbered (NoRoomForRows g) n f = no_reading 6 g n f
 numbered (NoRoomForErrors g) n f = no_reading 7 g n f
 numbered (NoRoomForRequests g) n f = no_reading 8 g n f
 
-abbrev pub numbered_value : Valued → ValueNumbers
-numbered_value (Is v) = record { code = 0; value = v }
-numbered_value NotANumber = record { code = 10; value = 0 }
-numbered_value TooLarge = record { code = 9; value = 0 }
+abbrev pub numbered_value : Result ℕ ValueError → ValueNumbers
+numbered_value (Ok v) = record { code = 0; value = v }
+numbered_value (Err e) = record { code = refusal_number e; value = 0 }
 
 abbrev pub numbered_items : ItemsAnswer → ItemNumbers
 numbered_items (Count n) = record { code = 0; count = n; given = 0 }

@@ -12,8 +12,9 @@ ghost use Rattle.share.specs.Words.{text_words};
 ghost use Rattle.vireopatch.specs.Seen.{seen, exported, base_numbered, value_in, seen_value, exported_value, seen_items, exported_items, seen_walk, exported_walk, seen_shares, exported_shares, seen_words, exported_words};
 ghost use Rattle.vireopatch.specs.Numbers.{no_reading, numbered, numbered_value, numbered_items, numbered_walk, no_shares, numbered_shares, no_words, numbered_words};
 
-use number::{Typed, Valued};
+use number::{NumberType, ValueError};
 use parser::Answer;
+use reading::Refusal;
 use share::{SharesAnswer, TextAnswer};
 use table::Walked;
 use trivia::ItemsAnswer;
@@ -104,13 +105,15 @@ struct ValueNumbers {
     value: u64,
 }
 
-fn value_numbers_of(valued: Valued) -> ValueNumbers
+fn value_numbers_of(valued: Result<u64, ValueError>) -> ValueNumbers
     ensures { result ≡ numbered_value valued }
 {
     match valued {
-        Valued::Is(v) => ValueNumbers { code: 0, value: v },
-        Valued::NotANumber => ValueNumbers { code: 10, value: 0 },
-        Valued::TooLarge => ValueNumbers { code: 9, value: 0 },
+        Ok(value) => ValueNumbers { code: 0, value },
+        Err(e) => ValueNumbers {
+            code: e.number(),
+            value: 0,
+        },
     }
 }
 
@@ -119,13 +122,11 @@ fn value_numbers_of(valued: Valued) -> ValueNumbers
 pub extern "C" fn vireopatch_value(number_type: u32, text: &[u8], value: &mut u64) -> u32
     ensures { seen_value result value.new ≡ exported_value (value_in (base_numbered number_type) text.now) }
 {
-    let typed = number::typed_of(number_type);
-    let Typed::Known(ty) = typed else {
+    let Ok(ty) = NumberType::try_from(number_type) else {
         *value = 0;
         return 10;
     };
-    let valued = number::value(ty, text);
-    let n = value_numbers_of(valued);
+    let n = value_numbers_of(number::value(ty, text));
     *value = n.value;
     n.code
 }

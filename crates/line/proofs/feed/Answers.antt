@@ -1,14 +1,20 @@
-use Prim.Native.Nat.{◌+◌}
-use mathlib.Core.Path.{sym}
+use mathlib.Core.Path.{refl, ap, ◌∙◌}
 use native.Mathlib.Omega.{arith}
-use Rattle.line.proofs.Lines.{line_over, line_on, line_end}
+use borrow.Author.Tests.{le-ltb}
+use mir.Val.{bool_byte}
+use Prim.Native.Nat.{◌+◌}
+use Rattle.line.proofs.Lines.{line_more, line_end}
 use Rattle.line.proofs.feed.Goals as goal
+use Rattle.line.proofs.feed.Goals.{then-at-text, else-at-text}
 
-pub returns-then-text-at-eq10 : goal.returns-then-text-at-eq10
-returns-then-text-at-eq10 c = sym (line_over _ _ c.if-text-at-eq10.true)
-
-pub returns-else-text-at-eq10 : goal.returns-else-text-at-eq10
-returns-else-text-at-eq10 c = omega (arith, line_on c.args.text.now c.args.at c.if-text-at-eq10.false)
-
-pub returns-else-at-text : goal.returns-else-at-text
-returns-else-at-text c = omega (arith, line_end c.args.text.now c.args.at (c.args.at + 1) c.if-at-text.false (omega arith))
+pub returns : goal.returns
+returns c =
+    elim c.if-at-text.branch [
+      | then-at-text w ↦ line_more _ _ refl (c.from.ensures ∙ ap bool_byte w.from-is)
+      | else-at-text w ↦
+          omega (
+            arith,
+            line_end c.args.text.now c.args.at (c.args.at + 1) w.if-at-text.false (omega arith),
+            c.from.ensures ∙ ap bool_byte (w.from-is ∙ le-ltb _ _ w.if-at-text.false),
+          )
+    ]

@@ -1,24 +1,15 @@
-use Prim.Native.Nat.{◌≤◌}
-use mathlib.Core.Path.{◌≡◌}
+use mathlib.Core.Path.{◌∙◌}
 use mathlib.Core.Logic.{inl, inr}
 use native.Mathlib.Omega.{arith}
-use Rattle.line.proofs.Lines.{clear_more}
+use Rattle.line.proofs.Lines.{clear_more, part_at}
 use Rattle.line.proofs.first_feed.Goals as goal
+use Rattle.line.proofs.first_feed.Goals.{then-b-eq10, else-b-eq10}
 
 pub loop-j-preserved : goal.loop-j-preserved
-loop-j-preserved c =
-    let z : (c.if-found-first.first ≤ c.loop-j.first) × (c.if-found-first.first ≤ c.if-text-at-eq10.found) = elim c.if-found-first.branch [
-      | goal.then-found-first x ↦
-          let e : c.if-found-first.first ≡ c.if-text-at-eq10.found = x.first-is in
-          (omega (arith, e, x.if-found-first.true), omega (arith, e))
-      | goal.else-found-first x ↦
-          let e : c.if-found-first.first ≡ c.loop-j.first = x.first-is in
-          (omega (arith, e), omega (arith, e, x.if-found-first.false))
-    ] in (
-      omega arith,
-      omega (arith, z.0, c.loop-j.invariant.1),
-      clear_more c.if-text-at-eq10.found c.loop-j.invariant.2 (elim c.if-text-at-eq10.branch [
-        | goal.then-text-at-eq10 x ↦ inl x.found-is
-        | goal.else-text-at-eq10 x ↦ inr x.if-text-at-eq10.false
-      ]) _ z.0 z.1,
-    )
+loop-j-preserved c = (
+  omega (arith, c.min-first.ensures, c.loop-j.invariant.0),
+  clear_more c.if-b-eq10.found c.loop-j.invariant.1 (elim c.if-b-eq10.branch [
+    | then-b-eq10 w ↦ inl w.found-is
+    | else-b-eq10 w ↦ inr (λ e. w.if-b-eq10.false (part_at _ _ _ _ c.loop-j-test.true ∙ e))
+  ]) _ (omega (arith, c.min-first.ensures)) (omega (arith, c.min-first.ensures)),
+)

@@ -1,38 +1,13 @@
-use mathlib.Core.Path.{◌≡◌, refl, ap, sym, subst, ◌∙◌}
-use mathlib.Core.Logic.{inl, inr}
+use mathlib.Core.Path.{refl, ap, sym, subst, ◌∙◌}
 use native.Mathlib.Omega.{arith}
 use lib.ListN.{length}
-use Rattle.reading.specs.Table.{row_width, room}
-use Rattle.line.specs.Lines.{lined}
 use Rattle.line.specs.Marks.{On}
-use Rattle.line.proofs.Fills.{lined_length, numbered_so, numbered_same, lined_more, lined_full}
+use Rattle.line.proofs.Fills.{lined_length, numbered_so, numbered_same, lined_more, lined_reached}
 use Rattle.line.proofs.Stretches.{reaches_as}
 use Rattle.line.proofs.number.Goals as goal
 
 pub loop-n-init : goal.loop-n-init
-loop-n-init c =
-    elim c.if-room-count.branch [
-      | goal.then-room-count x ↦
-          let e : c.if-room-count.end ≡ room row_width c.args.rows.now = x.end-is in (
-            c.requires.2,
-            refl,
-            c.requires.1,
-            numbered_same _ _ c.requires.3,
-            omega (arith, e, x.if-room-count.true),
-            omega (arith, e),
-            inr (omega (arith, e)),
-          )
-      | goal.else-room-count x ↦
-          let e : c.if-room-count.end ≡ c.args.count = x.end-is in (
-            c.requires.2,
-            refl,
-            c.requires.1,
-            numbered_same _ _ c.requires.3,
-            omega (arith, e),
-            omega (arith, e, x.if-room-count.false),
-            inl (omega (arith, e)),
-          )
-    ]
+loop-n-init c = (c.requires.2, refl, c.requires.1, numbered_same _ _ c.requires.3)
 
 pub line_of-requires : goal.line_of-requires
 line_of-requires c = (
@@ -46,7 +21,7 @@ line_of-requires c = (
     | goal.else-here-low x ↦ reaches_as x.here-is x.if-here-low.false
   ],
   numbered_so _ c.loop-n.invariant.3,
-  omega (arith, c.loop-n-test.true, c.loop-n.invariant.5, c.loop-n.invariant.1),
+  omega (arith, c.loop-n-test.true, c.min-end.ensures, c.loop-n.invariant.1),
 )
 
 pub loop-n-preserved : goal.loop-n-preserved
@@ -57,20 +32,14 @@ loop-n-preserved c =
     ] in
     let lined_on = lined_more c.args.text.now c.args.rows.now c.loop-n.n c.loop-n.invariant.3 refl c.line_of.ensures in
     let z = c.fill-n.ensures.2 c.args.text.now c.args.rows.now o lined_on in (
-      omega (arith, c.fill-n.ensures.1, c.loop-n.invariant.4),
+      omega (arith, c.fill-n.ensures.1, c.min-end.ensures),
       ap length z ∙ lined_length _ _ _,
       o,
       z,
-      c.loop-n.invariant.4,
-      c.loop-n.invariant.5,
-      c.loop-n.invariant.6,
     )
 
 pub returns : goal.returns
 returns c = (
   c.loop-n.invariant.2,
-  c.loop-n.invariant.3 ∙ elim c.loop-n.invariant.6 [
-    | inl h ↦ ap (lined _ _) (omega (arith, h, c.loop-n-test.false, c.loop-n.invariant.0))
-    | inr h ↦ sym (lined_full _ _ _ _ (omega (arith, h, c.loop-n-test.false)) c.loop-n.invariant.0)
-  ],
+  c.loop-n.invariant.3 ∙ sym (lined_reached _ _ _ _ (omega (arith, c.min-end.ensures, c.loop-n-test.false)) c.loop-n.invariant.0),
 )

@@ -1,7 +1,9 @@
 -- The products are those of the definition, and none is too large.
+use mathlib.Core.Path.{◌∙◌}
 use Rattle.share.proofs.Pool.{larger_is}
 use Rattle.share.proofs.larger.Goals as goal
 
 pub returns : goal.returns
 returns c =
-    larger_is _ _ _ _ _ _ _ _ _ c.word-a.ensures.0 c.word.ensures.0 c.word-c.ensures.0 c.word-2.ensures.0 c.over-b.ensures c.over-d.ensures
+    larger_is _ _ _ _ _ _ _ _ _ (c.from-2.ensures ∙ c.of-a.ensures.0) c.of-a.ensures.1 (c.from.ensures ∙ c.of-b.ensures.0) c.of-b.ensures.1
+    c.over.ensures c.over-2.ensures

@@ -1,6 +1,6 @@
--- Each run ends behind its start.
-use Rattle.std.proofs.Common.{◌-◌}
+-- Each run takes some of the line.
+use Rattle.std.proofs.Common.{length}
 use Rattle.share_test.proofs.texts.Given as goal
 
-abbrev pub decreases-loop-at : goal.decreases-loop-at
-decreases-loop-at l = l.next - l.at
+abbrev pub decreases-loop-fields : goal.decreases-loop-fields
+decreases-loop-fields l = length l.fields

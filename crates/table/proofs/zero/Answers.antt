@@ -1,7 +1,5 @@
-use mathlib.Core.Path.{◌∙◌}
-use lib.ListN.{length-set}
-use Rattle.table.proofs.Zeros.{zeroed_set}
+use Rattle.table.proofs.Zeros.{zeroed_part}
 use Rattle.table.proofs.zero.Goals as goal
 
-pub loop-i-preserved : goal.loop-i-preserved
-loop-i-preserved c = (simp length-set c.loop-i.invariant.0, zeroed_set _ _ c.loop-i-test.true ∙ c.loop-i.invariant.1)
+pub returns : goal.returns
+returns c = zeroed_part _ _ _ c.requires (c.fill.ensures.after (λ y e. e))
