@@ -35,6 +35,7 @@ fn main(rt: HostRuntime) -> io::Result<()> {
     out.flush()
 }
 
+// A turn takes a line, however long, and one of `texts` takes a run: neither is a `for`.
 fn lines(out: &mut impl Write, input: &[u8]) -> io::Result<()> {
     let mut tally = output::no_cases();
     let mut at: usize = 0;
