@@ -8,7 +8,6 @@ ghost use Rattle.number.specs.Answers.{base_of, told};
 ghost use Rattle.number.specs.Part.{part_of};
 
 use number::{NumberType, ValueError};
-use parser::Answer;
 use reading::Refusal;
 use std::io;
 use std::io::{BufWriter, Read, Write};
@@ -29,8 +28,9 @@ fn import(out: &mut impl Write, text: &[u8]) -> io::Result<()> {
     let mut errors = [0u32; 4096 * ERROR];
     let mut requests = [0u32; 4096 * REQUEST];
     let r = parser::read(text, 0, false, 64, &mut words, &mut errors, &mut requests);
-    let Answer::Read(x) = r else {
-        return output::not_read(out, r);
+    let x = match r {
+        Ok(x) => x,
+        Err(e) => return output::refusal(out, &e),
     };
     top_rows(out, text, &words, x.rows)
 }

@@ -3,7 +3,8 @@
 
 ghost use Rattle.std.specs.Prelude.{◌<◌};
 
-use parser::{Answer, Reading};
+use parser::Reading;
+use parser::error::ReadError;
 use std::io;
 use std::io::{BufWriter, Read, Write};
 
@@ -15,7 +16,7 @@ fn main(rt: HostRuntime) -> io::Result<()> {
     let mut text = Vec::new(rt.alloc());
     rt.reader().take(LONGEST as u64 + 1).read_to_end(&mut text)?;
     if LONGEST < text.len() {
-        output::refused(&mut out, 1, LONGEST)?;
+        output::refusal(&mut out, &ReadError::TooLong(LONGEST))?;
     } else {
         listing(&mut out, &text)?;
     }
@@ -28,8 +29,9 @@ fn listing(out: &mut impl Write, text: &[u8]) -> io::Result<()> {
     let mut errors = [0u32; 64 * table::ERROR];
     let mut requests = [0u32; 64 * table::REQUEST];
     let r = parser::read(text, 0, false, 32, &mut rows, &mut errors, &mut requests);
-    let Answer::Read(x) = r else {
-        return output::not_read(out, r);
+    let x = match r {
+        Ok(x) => x,
+        Err(e) => return output::refusal(out, &e),
     };
     out.write_all(b"kind size tlow low high detail line\n")?;
     records(out, &rows, x.rows, table::ROW)?;

@@ -5,7 +5,6 @@
 
 use fields::Fields;
 use number::{NumberType, ValueError};
-use parser::Answer;
 use reading::Refusal;
 use std::io;
 use std::io::{BufWriter, Read, Write};
@@ -92,7 +91,7 @@ fn read(e: Expected, text: &[u8]) -> bool {
     let mut errors = [0u32; 64 * ERROR];
     let mut requests = [0u32; 64 * REQUEST];
     let r = parser::read(text, 0, false, 64, &mut rows, &mut errors, &mut requests);
-    let Answer::Read(x) = r else {
+    let Ok(x) = r else {
         return false;
     };
     let (rows, _) = rows.as_chunks::<ROW>();

@@ -1,47 +1,15 @@
 // What several programs print.
 #![tactic(auto)]
 
-use parser::{Answer, Reading};
 use reading::Refusal;
 use std::io;
 use std::io::Write;
 
-// A number behind a label.
-pub fn number(out: &mut impl Write, label: &[u8], n: usize) -> io::Result<()> {
-    out.write_all(label)?;
-    write!(out, "{n}")
-}
-
 // A refusal, as document 01 lists it.
-pub fn refused(out: &mut impl Write, code: usize, gives: usize) -> io::Result<()> {
-    writeln!(out, "refusal number\n{code} {gives}")
-}
-
 pub fn refusal(out: &mut impl Write, refusal: &impl Refusal) -> io::Result<()> {
-    refused(out, refusal.number() as usize, refusal.gives())
-}
-
-// The reading, or the refusal's number and what it gives.
-pub fn outcome(a: Answer) -> Result<Reading, (usize, usize)> {
-    match a {
-        Answer::Read(x) => Ok(x),
-        Answer::TooLong(n) => Err((1, n)),
-        Answer::HighByte(n) => Err((2, n)),
-        Answer::ScopeTooLarge(n) => Err((3, n)),
-        Answer::LevelTooLarge(n) => Err((4, n)),
-        Answer::TooDeep(n) => Err((5, n)),
-        Answer::NoRoomForRows(n) => Err((6, n)),
-        Answer::NoRoomForErrors(n) => Err((7, n)),
-        Answer::NoRoomForRequests(n) => Err((8, n)),
-    }
-}
-
-// The refusal of a text that is not read.
-pub fn not_read(out: &mut impl Write, a: Answer) -> io::Result<()> {
-    match outcome(a) {
-        Ok(_) => Ok(()),
-        Err((number, gives)) => refused(out, number, gives),
-    }
+    let number = refusal.number();
+    let gives = refusal.gives();
+    writeln!(out, "refusal number\n{number} {gives}")
 }
 
 // Cases: how many are equal, and how many differ.

@@ -28,7 +28,7 @@ impl<'a> Reader<'a> {
     }
 
     // The last subtree of the rows ahead.
-    pub fn step(self) -> Result<Subtree, NoSubtree>
+    pub fn last_subtree(self) -> Result<Subtree, NoSubtree>
         ensures { told result ≡ walk self.entry.words.now self.entry.count }
     {
         table::walk(self.words, self.count)
@@ -42,22 +42,21 @@ impl<'a> Reader<'a> {
     }
 }
 
-// A step of a reader made here.
+// That of a reader made here.
 pub fn last_subtree(words: &[u32], count: usize) -> Result<Subtree, NoSubtree>
     ensures { told result ≡ walk words.now count }
 {
-    Reader::new(words, count).step()
+    Reader::new(words, count).last_subtree()
 }
 
-// How many top rows there are, from the last one to the first.
+// How many top rows there are, from the last one to the first. A turn goes back by a subtree, here and in `fill`, so neither is a `for`.
 pub fn top_count(words: &[u32], count: usize) -> Result<usize, NoSubtree>
     ensures { told_count result ≡ how_many (top_rows words.now count) }
 {
     let mut left = count;
     let mut n: usize = 0;
     while 0 < left {
-        let subtree = last_subtree(words, left)?;
-        left = subtree.before;
+        left = table::walk(words, left)?.before;
         n += 1;
     }
     Ok(n)
@@ -71,7 +70,7 @@ fn fill(words: &[u32], count: usize, n: usize, roots: &mut [usize])
     let mut left = count;
     let mut i = n;
     while 0 < left {
-        let subtree = last_subtree(words, left).unwrap();
+        let subtree = table::walk(words, left).unwrap();
         left = subtree.before;
         i -= 1;
         roots[i] = subtree.root.0;

@@ -1,7 +1,6 @@
 // Reads a pass table from standard input and prints its top rows, first to last, as the import loop walks them. Then what such a walk refuses.
 #![tactic(auto)]
 
-use parser::Answer;
 use reading::Refusal;
 use rows::TopsError;
 use std::io;
@@ -24,7 +23,7 @@ fn read(out: &mut impl Write, text: &[u8]) -> io::Result<()> {
     let mut errors = [0u32; 8 * ERROR];
     let mut requests = [0u32; 8 * REQUEST];
     let r = parser::read(text, 0, false, 32, &mut words, &mut errors, &mut requests);
-    let Answer::Read(x) = r else {
+    let Ok(x) = r else {
         return out.write_all(b"no reading\n");
     };
     whole(out, &words, x.rows)?;

@@ -34,11 +34,6 @@ sum_grows f i (suc n) h = go (ltb n i) refl (sum_grows f i n)
     go true q g = omega (arith, ap (λ (k : ℕ). sum f k) (let e : i ≡ suc n = omega (arith, ltb-true n i q) in e))
     go false q g = omega (arith, g (ltb-false n i q))
 
-pub sum_same : {f g : ℕ → ℕ} (n : ℕ) → ((k : ℕ) → k < n → f k ≡ g k) → sum f n ≡ sum g n
-unfolding sum
-sum_same zero h = refl
-sum_same (suc n) h = omega (arith, sum_same n (λ k l. h k (omega arith)), h n (omega arith))
-
 -- counted as far as one more than a bound
 pub sum_above : (f : ℕ → ℕ) (total i n m : ℕ) → total ≡ sum f (i + 1) → i < n → m < total → m + 1 ≡ min (sum f n) (suc m)
 sum_above f total i n m e h l = omega (arith, e, sum_grows f (i + 1) n (omega arith))

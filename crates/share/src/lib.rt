@@ -15,8 +15,12 @@ use table::{ROW, column};
 
 pub const MAX_TEXTS: usize = 1000;
 
-// The words of a text, in a list of texts.
+// The words of a text in a list of texts, and which of them is which.
 pub const TEXT: usize = 2;
+
+pub const TRIVIA: usize = 0;
+
+pub const LENGTH: usize = 1;
 
 // The two words of a text: its trivia bytes, and its length.
 #[derive(Clone, Copy, Debug, PartialEq, Eq)]
@@ -81,8 +85,8 @@ impl TextWords {
         ensures { (result.trivia ≡ trivia_of words.now i) × (result.length ≡ length_of words.now i) }
     {
         TextWords {
-            trivia: words[i * TEXT],
-            length: words[i * TEXT + 1],
+            trivia: words[i * TEXT + TRIVIA],
+            length: words[i * TEXT + LENGTH],
         }
     }
 

@@ -4,7 +4,6 @@
 #![tactic(auto)]
 
 use fields::Fields;
-use parser::Answer;
 use reading::Refusal;
 use rows::TopsError;
 use share::{Fraction, Largest, SharesError, SharesFound, TextWords, WordsError};
@@ -124,7 +123,7 @@ fn read(text: &[u8], trivia: usize, length: usize) -> bool {
     let mut requests = [0u32; 256 * REQUEST];
     let mut roots = [0usize; 1025];
     let r = parser::read(text, 0, false, 64, &mut rows, &mut errors, &mut requests);
-    let Answer::Read(x) = r else {
+    let Ok(x) = r else {
         return false;
     };
     words(text, &rows, x.rows, trivia, length, &mut roots)

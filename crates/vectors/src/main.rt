@@ -6,7 +6,9 @@ ghost use Rattle.std.specs.Prelude.{◌<◌};
 
 use fields::Fields;
 use output::Tally;
-use parser::{Answer, Reading};
+use parser::Reading;
+use parser::error::ReadError;
+use reading::Refusal;
 use std::io;
 use std::io::{BufWriter, Read, Write};
 
@@ -143,13 +145,20 @@ fn read(fields: &mut Fields, text: &[u8], start: Start, room: Room) -> bool {
 }
 
 // Refusals 1 to 4 leave the tables, 5 to 8 zero them.
-fn compare(fields: &mut Fields, a: Answer, rows: &[u32], errors: &[u32], requests: &[u32]) -> bool {
-    match output::outcome(a) {
+fn compare(
+    fields: &mut Fields,
+    reading: Result<Reading, ReadError>,
+    rows: &[u32],
+    errors: &[u32],
+    requests: &[u32],
+) -> bool {
+    match reading {
         Ok(x) => answered(fields, x, rows, errors, requests),
-        Err((number, gives)) => {
+        Err(e) => {
+            let number = e.number();
             let word = if number <= 4 { FILL } else { 0 };
-            fields.number() == number
-                && fields.number() == gives
+            fields.number() == number as usize
+                && fields.number() == e.gives()
                 && all(rows, word)
                 && all(errors, word)
                 && all(requests, word)

@@ -6,8 +6,8 @@ pub loop-left-init : goal.loop-left-init
 loop-left-init c = passed_none _ _
 
 pub loop-left-smaller : goal.loop-left-smaller
-loop-left-smaller c = walk_less _ _ _ (sym c.in_ok-subtree.ensures)
+loop-left-smaller c = walk_less _ _ _ (sym c.in_ok-left.ensures)
 
 pub loop-left-preserved : goal.loop-left-preserved
 loop-left-preserved c =
-    passed_more c.loop-left.invariant c.loop-left-test.true _ (sym c.in_ok-subtree.ensures)
+    passed_more c.loop-left.invariant c.loop-left-test.true _ (sym c.in_ok-left.ensures)
