@@ -2,7 +2,7 @@
 // place where it begins in two decimal digits, and the text in hexadecimal digits. The expected output is what the Rust gives.
 #![tactic(auto)]
 
-use cursor::{Cursor, Read};
+use cursor::{Cursor, Read, Stop};
 use std::io;
 use std::io::{BufWriter, Read as _, Write};
 use table::{Pos, ROW, RowIndex};
@@ -56,13 +56,13 @@ fn part(out: &mut impl Write, kind: u8, s: &[u8], low: usize) -> io::Result<()> 
 
 fn show(out: &mut impl Write, r: Read, rows: &[u32]) -> io::Result<()> {
     match r {
-        Read::Got(d) => {
+        Ok(d) => {
             print_rows(out, rows, d.count.0)?;
             let end = d.at.0;
             writeln!(out, "end {end}")
         }
-        Read::Miss(_) => out.write_all(b"miss\n"),
-        Read::Deep => out.write_all(b"deep\n"),
+        Err(Stop::Miss(_)) => out.write_all(b"miss\n"),
+        Err(Stop::Deep) => out.write_all(b"deep\n"),
     }
 }
 

@@ -9,7 +9,7 @@ ghost use Rattle.lexis.specs.Finds.{Finds, identifier, dotted, identifiers};
 use crate::mark;
 use cursor::{Cursor, Read, Skip, Stop};
 use table::{Kind, Pos};
-use trivia::class;
+use trivia::class::Class;
 
 // `-` or `+` with no letter or digit behind it.
 fn scope(s: &[u8], at: Pos) -> Option<Pos>
@@ -28,7 +28,7 @@ fn scope(s: &[u8], at: Pos) -> Option<Pos>
         return Some(Pos(j));
     }
     let next = s[j];
-    if class::letter(next) | class::digit(next) {
+    if Class::Letter.has(next) | Class::Digit.has(next) {
         return None;
     }
     Some(Pos(j))

@@ -40,9 +40,9 @@ fn whole(out: &mut impl Write, words: &[u32], count: usize) -> io::Result<()> {
 }
 
 fn lines(out: &mut impl Write, words: &[u32], roots: &[usize], n: usize) -> io::Result<()> {
-    for (i, root) in roots.iter().take(n).enumerate() {
-        output::number(out, b"row ", i + 1)?;
-        line(out, words, *root)?;
+    for (i, &root) in roots.iter().take(n).enumerate() {
+        write!(out, "row {}", i + 1)?;
+        line(out, words, root)?;
     }
     Ok(())
 }
@@ -52,11 +52,11 @@ fn line(out: &mut impl Write, words: &[u32], root: usize) -> io::Result<()> {
         return Ok(());
     }
     let i = root * ROW;
-    output::number(out, b": kind ", words[i + column::KIND] as usize)?;
-    output::number(out, b", bytes ", words[i + column::LOW] as usize)?;
-    output::number(out, b"..", words[i + column::HIGH] as usize)?;
-    output::number(out, b", rows ", words[i + column::SIZE] as usize)?;
-    out.write_all(b"\n")
+    let kind = words[i + column::KIND];
+    let low = words[i + column::LOW];
+    let high = words[i + column::HIGH];
+    let size = words[i + column::SIZE];
+    writeln!(out, ": kind {kind}, bytes {low}..{high}, rows {size}")
 }
 
 // Into three words that are not zero: too many top rows, too many rows, none, two top rows, and a count inside the second one.
@@ -75,13 +75,11 @@ fn show(out: &mut impl Write, label: &[u8], words: &[u32], count: usize) -> io::
     let mut roots = [9usize; 3];
     out.write_all(label)?;
     match rows::tops(words, count, &mut roots) {
-        Ok(n) => output::number(out, b": ", n),
+        Ok(n) => write!(out, ": {n}"),
         Err(e) => refused(out, e),
     }?;
-    output::number(out, b", words ", roots[0])?;
-    output::number(out, b" ", roots[1])?;
-    output::number(out, b" ", roots[2])?;
-    out.write_all(b"\n")
+    let [a, b, c] = roots;
+    writeln!(out, ", words {a} {b} {c}")
 }
 
 fn refused(out: &mut impl Write, e: TopsError) -> io::Result<()> {

@@ -16,12 +16,12 @@ pub returns-then-s-j : goal.returns-then-s-j
 returns-then-s-j c =
     scope_at _ _ c.if-s-i.false c.if-not-b.false (never_no (one_end alphanumeric _ _ c.if-s-j.true) _ refl)
 
-pub returns-then-letter-digit : goal.returns-then-letter-digit
-returns-then-letter-digit c =
+pub returns-then-has : goal.returns-then-has
+returns-then-has c =
     scope_at _ _ c.if-s-i.false c.if-not-b.false
-    (never_at tt (one_at alphanumeric _ _ c.if-s-j.false (sym (ap₂ ◌||◌ c.letter.ensures c.digit.ensures) ∙ c.if-letter-digit.true) (record { 0 = _ }) refl))
+    (never_at tt (one_at alphanumeric _ _ c.if-s-j.false (sym (ap₂ ◌||◌ c.has.ensures c.has-2.ensures) ∙ c.if-has.true) (record { 0 = _ }) refl))
 
 pub returns : goal.returns
 returns c =
     scope_at _ _ c.if-s-i.false c.if-not-b.false
-    (never_no (one_no alphanumeric _ _ c.if-s-j.false (sym (ap₂ ◌||◌ c.letter.ensures c.digit.ensures) ∙ c.if-letter-digit.false)) _ refl)
+    (never_no (one_no alphanumeric _ _ c.if-s-j.false (sym (ap₂ ◌||◌ c.has.ensures c.has-2.ensures) ∙ c.if-has.false)) _ refl)
