@@ -2,3 +2,4 @@ pub mod Behind
 pub mod Finds
 pub mod Picks
 pub mod Suffix
+pub mod Around

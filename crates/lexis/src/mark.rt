@@ -5,12 +5,36 @@ ghost use Rattle.reading.specs.Grammar.{leaf, one, run0, run1, tag_no_case, ◌�
 ghost use Rattle.reading.specs.Kind.{charᵏ};
 ghost use Rattle.table.specs.Kinds.{kind_number};
 ghost use Rattle.trivia.specs.Class.{bit_of, among, starts, goes};
+ghost use Rattle.lexis.specs.Around.{Spans, Finished};
 ghost use Rattle.lexis.specs.Behind.{Behind, Placed, Rowed};
 ghost use Rattle.lexis.specs.Finds.{Finds};
 
 use cursor::{Cursor, Read, Skip, Stop};
 use table::{Kind, Pos, RowIndex};
 use trivia::class::Class;
+
+// The row around what was read from `c` to `d`, whose body begins at `low`; the cursor behind it.
+pub fn around(c: Cursor, low: Pos, d: Cursor, kind: Kind, detail: usize, rows: &mut [u32]) -> Cursor
+    requires spans { Spans c low.0 d }
+    requires detail_bound { detail < 2 ^ 32 }
+    ensures { Finished (kind_number kind) detail c low.0 d rows.old rows.new result }
+{
+    let n = d.count.0;
+    table::push_row(
+        rows,
+        d.count,
+        kind,
+        n + 1 - c.count.0,
+        c.at,
+        low,
+        d.at,
+        detail,
+    );
+    Cursor {
+        count: RowIndex(n + 1),
+        ..d
+    }
+}
 
 // The row of what stands from `k.at` to `high`.
 pub fn row(c: Cursor, k: Skip, high: Pos, kind: Kind, detail: usize, rows: &mut [u32]) -> Read

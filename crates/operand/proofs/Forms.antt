@@ -29,7 +29,7 @@ use Rattle.expression.proofs.Facts.{expression_solid}
 use Rattle.expression.proofs.Steps.{else_first, else_miss}
 use Rattle.expression.proofs.Terms.{low_expression}
 use Rattle.operand.specs.Parts.{addressed, closing_of}
-use Rattle.operand.specs.Finish.{Finished}
+use Rattle.lexis.specs.Around.{Finished}
 use Rattle.operand.proofs.Facts.{opened_solid, closing_quiet, closed_quiet, trying_quiet, tried_quiet}
 use Rattle.operand.proofs.Paren.{fits_fails, tried, expression_fails, closing_fails}
 use Rattle.operand.proofs.Steps.{skips_kept, over_misses, over_lacks, over_done, reads_empty, bracket_misses, behind_misses, behind_goes}

@@ -20,7 +20,7 @@ use Rattle.cursor.proofs.Loops.{Looped, Round, many_step, many_more, many_end, m
 use Rattle.expression.proofs.Facts.{expression_solid}
 use Rattle.expression.proofs.Steps.{else_first, else_miss}
 use Rattle.expression.proofs.Terms.{low_expression}
-use Rattle.operand.specs.Finish.{Finished}
+use Rattle.lexis.specs.Around.{Finished}
 use Rattle.operand.proofs.Facts.{multiline_quiet, key_solid, pairs_solid, map_quiet, block_quiet, assigned_solid, kvp_rounds}
 use Rattle.operand.proofs.Steps.{rule_reads, reads_empty, over_misses, over_lacks, over_done, bracket_misses, bracket_deep, bracket_enters}
 use Rattle.cursor.specs.declared.Stop.TheVariants.{Miss, Deep}

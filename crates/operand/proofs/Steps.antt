@@ -23,7 +23,7 @@ use Rattle.cursor.proofs.Lows.{First}
 use Rattle.cursor.proofs.Laws.{lies, moved, Solid, rule_is, reading_to, reading_is, empty_is}
 use Rattle.cursor.proofs.Laws.{node_out, node_got, over_out, over_no, over_got, bracket_out, bracket_none, bracket_in}
 use Rattle.lexis.proofs.Solids.{suffix_moved}
-use Rattle.operand.specs.Finish.{Spans, Finished}
+use Rattle.lexis.specs.Around.{Spans, Finished}
 use Rattle.operand.proofs.Facts.{marked}
 use Rattle.operand.proofs.Paren.{bracket_seq}
 use Rattle.cursor.specs.declared.Stop.TheVariants.{Deep}

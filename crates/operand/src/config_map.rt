@@ -8,6 +8,7 @@ ghost use Rattle.cursor.specs.Text.{Skips};
 ghost use Rattle.cursor.specs.Agree.{Ready, Reads, Leafs};
 
 use cursor::{Cursor, Read, Skip, Stop};
+use lexis::mark;
 use table::Kind;
 
 // `{`, which takes a level, pairs and `}`: a block, and the token around it.
@@ -17,13 +18,13 @@ pub fn config_map(s: &[u8], c: Cursor, left: usize, rows: &mut [u32]) -> Read
     ensures { Reads config_map s.now c left rows.old rows.new result }
 {
     let k = trivia::multiline_trivia(s, c.at, c.met);
-    let d = lexis::mark::char(s, c, k, b'{', rows)?;
+    let d = mark::char(s, c, k, b'{', rows)?;
     if left == 0 {
         return Err(Stop::Deep);
     }
     let e = kvps(s, d, left - 1, rows)?;
-    let y = crate::finish(c, k.at, e, Kind::Block, 0, rows);
-    Ok(crate::finish(c, k.at, y, Kind::Config, 0, rows))
+    let y = mark::around(c, k.at, e, Kind::Block, 0, rows);
+    Ok(mark::around(c, k.at, y, Kind::Config, 0, rows))
 }
 
 // Pairs, and the closing brace.
@@ -51,7 +52,7 @@ pub fn kvp(s: &[u8], c: Cursor, left: usize, rows: &mut [u32]) -> Read
     let k = trivia::multiline_trivia(s, c.at, c.met);
     let d = config_key(s, c, k, rows)?;
     let e = assigned(s, d, left, rows)?;
-    Ok(crate::finish(c, k.at, e, Kind::ConfigPair, 0, rows))
+    Ok(mark::around(c, k.at, e, Kind::ConfigPair, 0, rows))
 }
 
 // Letters, digits and `-`, the first no digit.
@@ -60,7 +61,7 @@ fn config_key(s: &[u8], c: Cursor, k: Skip, rows: &mut [u32]) -> Read
     requires skips { Skips multiline_trivia s.now c.at.0 c.met k }
     ensures { Leafs (mws wordᵏ 0 config_key) s.now c rows.old rows.new result }
 {
-    lexis::mark::name(s, c, k, b'-', Kind::Word, rows)
+    mark::name(s, c, k, b'-', Kind::Word, rows)
 }
 
 // A byte behind trivia with line ends.
@@ -69,7 +70,7 @@ fn mchar(s: &[u8], c: Cursor, b: u8, rows: &mut [u32]) -> Read
     ensures { Leafs (node charᵏ (always b) multiline_trivia (leaf (one (is b)))) s.now c rows.old rows.new result }
 {
     let k = trivia::multiline_trivia(s, c.at, c.met);
-    lexis::mark::char(s, c, k, b, rows)
+    mark::char(s, c, k, b, rows)
 }
 
 // `=` and a value.
@@ -96,7 +97,7 @@ fn value(s: &[u8], c: Cursor, left: usize, rows: &mut [u32]) -> Read
         ..c
     };
     let d = config_value(s, start, left, rows)?;
-    Ok(crate::finish(c, k.at, d, Kind::ConfigValue, 0, rows))
+    Ok(mark::around(c, k.at, d, Kind::ConfigValue, 0, rows))
 }
 
 // A map, or an expression.
@@ -120,5 +121,5 @@ fn expression_value(s: &[u8], c: Cursor, left: usize, rows: &mut [u32]) -> Read
 {
     let k = trivia::trivia(s, c.at, c.met);
     let d = expression::expression(s, c, k, left, rows)?;
-    Ok(crate::finish(c, k.at, d, Kind::Expression, 0, rows))
+    Ok(mark::around(c, k.at, d, Kind::Expression, 0, rows))
 }

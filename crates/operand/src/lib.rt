@@ -7,12 +7,11 @@ ghost use Rattle.reading.specs.Grammar.{bracket};
 ghost use Rattle.reading.specs.Rules.{char, trivia, expression, am_imm, am_abs, operand};
 ghost use Rattle.cursor.specs.Text.{Skips};
 ghost use Rattle.cursor.specs.Agree.{Ready, Reads, Leafs};
-ghost use Rattle.table.specs.Kinds.{kind_number};
 ghost use Rattle.operand.specs.Parts.{addressed, closing_of};
-ghost use Rattle.operand.specs.Finish.{Spans, Finished};
 
 use cursor::{Cursor, Read, Skip, Stop};
-use table::{Kind, Pos, RowIndex};
+use lexis::mark;
+use table::Kind;
 
 pub mod config_map;
 
@@ -24,29 +23,6 @@ const IMMEDIATE: usize = 2;
 const INDIRECT: usize = 4;
 
 const OUTER_INDIRECT: usize = 5;
-
-// The row around what stands from `c` to `d`; its body begins at `low`.
-fn finish(c: Cursor, low: Pos, d: Cursor, kind: Kind, detail: usize, rows: &mut [u32]) -> Cursor
-    requires spans { Spans c low.0 d }
-    requires detail_bound { detail < 2 ^ 32 }
-    ensures { Finished (kind_number kind) detail c low.0 d rows.old rows.new result }
-{
-    let n = d.count.0;
-    table::push_row(
-        rows,
-        d.count,
-        kind,
-        n + 1 - c.count.0,
-        c.at,
-        low,
-        d.at,
-        detail,
-    );
-    Cursor {
-        count: RowIndex(n + 1),
-        ..d
-    }
-}
 
 // An operand. `k` is the trivia before it, which all forms share.
 pub fn operand(s: &[u8], c: Cursor, k: Skip, left: usize, rows: &mut [u32]) -> Read
@@ -72,10 +48,10 @@ fn am_imm(s: &[u8], c: Cursor, k: Skip, left: usize, rows: &mut [u32]) -> Read
     requires skips { Skips trivia s.now c.at.0 c.met k }
     ensures { Reads am_imm s.now c left rows.old rows.new result }
 {
-    let d = lexis::mark::char(s, c, k, b'#', rows)?;
+    let d = mark::char(s, c, k, b'#', rows)?;
     let j = trivia::trivia(s, d.at, d.met);
     let e = expression::expression(s, d, j, left, rows)?;
-    Ok(finish(c, k.at, e, Kind::Operand, IMMEDIATE, rows))
+    Ok(mark::around(c, k.at, e, Kind::Operand, IMMEDIATE, rows))
 }
 
 // An expression, and a suffix or none.
@@ -86,7 +62,7 @@ fn am_abs(s: &[u8], c: Cursor, k: Skip, left: usize, rows: &mut [u32]) -> Read
 {
     let d = expression::expression(s, c, k, left, rows)?;
     let e = lexis::operator::optional_suffix(s, d, rows)?;
-    Ok(finish(c, k.at, e, Kind::Operand, ABSOLUTE_OR_ZP, rows))
+    Ok(mark::around(c, k.at, e, Kind::Operand, ABSOLUTE_OR_ZP, rows))
 }
 
 // Where `(` stands: am_ind, am_outer_ind and am_abs. The three begin with the same bytes, and where `)` does not follow the expression,
@@ -101,11 +77,11 @@ fn in_parens(s: &[u8], c: Cursor, k: Skip, left: usize, rows: &mut [u32]) -> Rea
     match closing(s, d, false, rows) {
         Ok(e) => {
             let x = lexis::operator::optional_suffix(s, e, rows)?;
-            Ok(finish(c, k.at, x, Kind::Operand, OUTER_INDIRECT, rows))
+            Ok(mark::around(c, k.at, x, Kind::Operand, OUTER_INDIRECT, rows))
         }
         Err(Stop::Miss(met)) => {
             let x = closing(s, Cursor { met, ..d }, true, rows)?;
-            Ok(finish(c, k.at, x, Kind::Operand, INDIRECT, rows))
+            Ok(mark::around(c, k.at, x, Kind::Operand, INDIRECT, rows))
         }
         Err(Stop::Deep) => Err(Stop::Deep),
     }
@@ -117,7 +93,7 @@ fn opened(s: &[u8], c: Cursor, k: Skip, left: usize, rows: &mut [u32]) -> Read
     requires skips { Skips trivia s.now c.at.0 c.met k }
     ensures { Reads (bracket trivia 40 expression) s.now c left rows.old rows.new result }
 {
-    let d = lexis::mark::char(s, c, k, b'(', rows)?;
+    let d = mark::char(s, c, k, b'(', rows)?;
     if left == 0 {
         return Err(Stop::Deep);
     }
@@ -131,7 +107,7 @@ fn close(s: &[u8], c: Cursor, rows: &mut [u32]) -> Read
     ensures { Leafs (char ")") s.now c rows.old rows.new result }
 {
     let k = trivia::trivia(s, c.at, c.met);
-    lexis::mark::char(s, c, k, b')', rows)
+    mark::char(s, c, k, b')', rows)
 }
 
 // `)`, where a suffix may stand before it or not.

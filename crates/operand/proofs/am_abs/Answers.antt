@@ -23,12 +23,12 @@ returns-in_err-e c =
     let p = err_from_is_err_and c.from_residual-in_err-e.result c.from_residual-in_err-e.ensures.1 in
     rw (p.1, p.2) (abs_lacks c.in_ok-d.ensures c.in_ok-d.d refl c.in_err-e.ensures refl)
 
-pub finish-requires-clause-spans : goal.finish-requires-clause-spans
-finish-requires-clause-spans c =
+pub around-requires-clause-spans : goal.around-requires-clause-spans
+around-requires-clause-spans c =
     let a = onward_solid expression_solid c.requires.ready.within c.in_ok-d.ensures c.in_ok-d.d refl in
     let b = onward_suffix a.within c.in_ok-e.ensures c.in_ok-e.e refl in
     spans c.requires.ready c.requires.skips (omega arith) (onward_then a b)
 
 pub returns : goal.returns
 returns c =
-    abs_done c.in_ok-d.ensures c.in_ok-d.d refl c.in_ok-e.ensures c.requires.skips c.in_ok-e.e refl c.finish.ensures
+    abs_done c.in_ok-d.ensures c.in_ok-d.d refl c.in_ok-e.ensures c.requires.skips c.in_ok-e.e refl c.around.ensures

@@ -33,8 +33,8 @@ returns-in_err-e c =
     let p = err_from_is_err_and c.from_residual-in_err-e.result c.from_residual-in_err-e.ensures.1 in
     rw (p.1, p.2) (imm_lacks _ (c.in_ok-d.ensures.leafs trivia c.requires.skips) c.in_ok-d.d refl c.in_err-e.ensures refl)
 
-pub finish-requires-clause-spans : goal.finish-requires-clause-spans
-finish-requires-clause-spans c =
+pub around-requires-clause-spans : goal.around-requires-clause-spans
+around-requires-clause-spans c =
     let m = c.in_ok-d.ensures.leafs trivia c.requires.skips in
     let a = onward_solid (char_solid false 35) c.requires.ready.within (reads_leaf 0 m) c.in_ok-d.d refl in
     let b = onward_solid expression_solid a.within c.in_ok-e.ensures c.in_ok-e.e refl in
@@ -43,4 +43,4 @@ finish-requires-clause-spans c =
 pub returns : goal.returns
 returns c =
     imm_done _ (c.in_ok-d.ensures.leafs trivia c.requires.skips) c.in_ok-d.d refl c.in_ok-e.ensures
-    c.requires.skips c.in_ok-e.e refl c.finish.ensures
+    c.requires.skips c.in_ok-e.e refl c.around.ensures

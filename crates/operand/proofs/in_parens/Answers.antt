@@ -30,8 +30,8 @@ optional_suffix-requires c =
 pub returns-in_err-x-in-Ok : goal.returns-in_err-x-in-Ok
 returns-in_err-x-in-Ok c = absurd (suffix_fits c.in_err-x-in-Ok.ensures refl)
 
-pub finish-requires-clause-spans : goal.finish-requires-clause-spans
-finish-requires-clause-spans c =
+pub around-requires-clause-spans : goal.around-requires-clause-spans
+around-requires-clause-spans c =
     let a = onward_solid opened_solid c.requires.ready.within c.in_ok-d.ensures c.in_ok-d.d refl in
     let b = onward_then a (onward_solid (closing_solid false) a.within (reads_leaf 0 c.closing.ensures) c.in-Ok.e c.in-Ok.is) in
     let x = onward_then b (onward_suffix b.within c.in_ok-x-in-Ok.ensures c.in_ok-x-in-Ok.x refl) in
@@ -49,8 +49,8 @@ returns-in_err-x-in-Err-Miss c =
     (outer_lacks c.requires.skips c.requires.s_value c.in_ok-d.ensures c.in_ok-d.d refl c.closing.ensures _
     (c.in-Err-Miss.is ∙ ap Err c.in-Err-Miss.field-0-is) c.in_err-x-in-Err-Miss.ensures refl)
 
-pub finish-requires-in-Err-Miss-clause-spans : goal.finish-requires-in-Err-Miss-clause-spans
-finish-requires-in-Err-Miss-clause-spans c =
+pub around-requires-in-Err-Miss-clause-spans : goal.around-requires-in-Err-Miss-clause-spans
+around-requires-in-Err-Miss-clause-spans c =
     let a = onward_solid opened_solid c.requires.ready.within c.in_ok-d.ensures c.in_ok-d.d refl in
     let y = onward_then (onward_noted c.in-Err-Miss.met a)
     (onward_solid (closing_solid true) a.within (reads_leaf 0 c.in_ok-x-in-Err-Miss.ensures) c.in_ok-x-in-Err-Miss.x refl) in
@@ -59,12 +59,12 @@ finish-requires-in-Err-Miss-clause-spans c =
 pub returns-in_ok-x-in-Ok : goal.returns-in_ok-x-in-Ok
 returns-in_ok-x-in-Ok c =
     indirect c.requires.skips c.requires.s_value c.in_ok-d.ensures c.in_ok-d.d refl c.closing.ensures c.in-Ok.e
-    c.in-Ok.is c.in_ok-x-in-Ok.ensures c.in_ok-x-in-Ok.x refl c.finish.ensures
+    c.in-Ok.is c.in_ok-x-in-Ok.ensures c.in_ok-x-in-Ok.x refl c.around.ensures
 
 pub returns-in_ok-x-in-Err-Miss : goal.returns-in_ok-x-in-Err-Miss
 returns-in_ok-x-in-Err-Miss c =
     outer_done c.requires.skips c.requires.s_value c.in_ok-d.ensures c.in_ok-d.d refl c.closing.ensures _
-    (c.in-Err-Miss.is ∙ ap Err c.in-Err-Miss.field-0-is) c.in_ok-x-in-Err-Miss.ensures c.in_ok-x-in-Err-Miss.x refl c.finish-in-Err-Miss.ensures
+    (c.in-Err-Miss.is ∙ ap Err c.in-Err-Miss.field-0-is) c.in_ok-x-in-Err-Miss.ensures c.in_ok-x-in-Err-Miss.x refl c.around-in-Err-Miss.ensures
 
 pub returns-in-Err-Deep : goal.returns-in-Err-Deep
 returns-in-Err-Deep c = absurd (leaf_deep c.closing.ensures (c.in-Err-Deep.is ∙ ap Err c.in-Err-Deep.field-0-is))

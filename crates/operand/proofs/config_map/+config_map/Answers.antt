@@ -11,7 +11,7 @@ use Rattle.cursor.proofs.Loops.{looped_none}
 use Rattle.lexis.proofs.Solids.{char_solid}
 use Rattle.operand.proofs.Facts.{key_solid, pairs_solid, assigned_solid, value_quiet, value_slim, value_cost}
 use Rattle.expression.proofs.Steps.{then_out, then_got}
-use Rattle.operand.proofs.Steps.{node_misses, node_done, onward, onward_solid, onward_then, onward_behind, onward_finished, onward_ready, spans}
+use Rattle.operand.proofs.Steps.{node_misses, node_done, onward, onward_solid, onward_then, onward_behind, onward_arounded, onward_ready, spans}
 use Rattle.operand.proofs.Pairs.{map_misses, map_deep, map_lacks, map_done, pairs_round, pairs_more, pairs_end, pairs_deep}
 use Rattle.operand.proofs.Pairs.{kvp_misses, kvp_lacks, kvp_done, value_map, value_other}
 use Rattle.operand.proofs.config_map.+config_map.Goals as goal
@@ -52,25 +52,25 @@ config_map-returns-in_err-e t c =
     rw (p.1, p.2) (map_lacks _ (c.in_ok-d.ensures.leafs multiline_trivia c.multiline_trivia-k.ensures) c.in_ok-d.d refl
     c.if-left-eq0.false c.in_err-e.ensures refl)
 
-pub config_map-finish-y-requires-clause-spans : goal.config_map-finish-y-requires-clause-spans
-config_map-finish-y-requires-clause-spans t c =
+pub config_map-around-y-requires-clause-spans : goal.config_map-around-y-requires-clause-spans
+config_map-around-y-requires-clause-spans t c =
     let a = onward_solid (char_solid true 123) c.requires.within
     (reads_leaf 0 (c.in_ok-d.ensures.leafs multiline_trivia c.multiline_trivia-k.ensures)) c.in_ok-d.d refl in
     let b = onward_then a (onward_solid pairs_solid a.within c.in_ok-e.ensures c.in_ok-e.e refl) in
     spans c.requires c.multiline_trivia-k.ensures (omega arith) b
 
-pub config_map-finish-requires-clause-spans : goal.config_map-finish-requires-clause-spans
-config_map-finish-requires-clause-spans t c =
+pub config_map-around-requires-clause-spans : goal.config_map-around-requires-clause-spans
+config_map-around-requires-clause-spans t c =
     let a = onward_solid (char_solid true 123) c.requires.within
     (reads_leaf 0 (c.in_ok-d.ensures.leafs multiline_trivia c.multiline_trivia-k.ensures)) c.in_ok-d.d refl in
     let b = onward_then a (onward_solid pairs_solid a.within c.in_ok-e.ensures c.in_ok-e.e refl) in
-    spans c.requires c.multiline_trivia-k.ensures (omega arith) (onward_finished b c.finish-y.ensures)
+    spans c.requires c.multiline_trivia-k.ensures (omega arith) (onward_arounded b c.around-y.ensures)
 
 pub config_map-returns : goal.config_map-returns
 config_map-returns t c =
     map_done _ (c.in_ok-d.ensures.leafs multiline_trivia c.multiline_trivia-k.ensures) c.in_ok-d.d refl
-    c.if-left-eq0.false c.in_ok-e.ensures c.multiline_trivia-k.ensures c.in_ok-e.e refl c.finish-y.ensures
-    c.finish.ensures
+    c.if-left-eq0.false c.in_ok-e.ensures c.multiline_trivia-k.ensures c.in_ok-e.e refl c.around-y.ensures
+    c.around.ensures
 
 pub config_value-returns-in_default : goal.config_value-returns-in_default
 config_value-returns-in_default t c = value_map c.requires.le_at c.requires.ready.within c.in_default.ensures (λ m e. grind arith)
@@ -97,8 +97,8 @@ kvp-returns-in_err-e t c =
     let p = err_from_is_err_and c.from_residual-in_err-e.result c.from_residual-in_err-e.ensures.1 in
     rw (p.1, p.2) (kvp_lacks _ c.in_ok-d.ensures c.in_ok-d.d refl c.in_err-e.ensures refl)
 
-pub kvp-finish-requires-clause-spans : goal.kvp-finish-requires-clause-spans
-kvp-finish-requires-clause-spans t c =
+pub kvp-around-requires-clause-spans : goal.kvp-around-requires-clause-spans
+kvp-around-requires-clause-spans t c =
     let a = onward_solid key_solid c.requires.within (reads_leaf 0 c.in_ok-d.ensures) c.in_ok-d.d refl in
     let b = onward_then a (onward_solid assigned_solid a.within c.in_ok-e.ensures c.in_ok-e.e refl) in
     spans c.requires c.multiline_trivia-k.ensures (omega arith) b
@@ -106,7 +106,7 @@ kvp-finish-requires-clause-spans t c =
 pub kvp-returns : goal.kvp-returns
 kvp-returns t c =
     kvp_done _ c.in_ok-d.ensures c.in_ok-d.d refl c.in_ok-e.ensures
-    c.multiline_trivia-k.ensures c.in_ok-e.e refl c.finish.ensures
+    c.multiline_trivia-k.ensures c.in_ok-e.e refl c.around.ensures
 
 pub kvps-loop-e-init : goal.kvps-loop-e-init
 kvps-loop-e-init t c = looped_none _ _ _ _ _ _ _ c.requires.within
@@ -133,12 +133,12 @@ value-returns-in_err-d t c =
     let p = err_from_is_err_and c.from_residual.result c.from_residual.ensures.1 in
     rw (p.1, p.2) (node_misses config_valueᵏ 0 c.multiline_trivia-k.ensures c.in_err-d.ensures refl)
 
-pub value-finish-requires-clause-spans : goal.value-finish-requires-clause-spans
-value-finish-requires-clause-spans t c =
+pub value-around-requires-clause-spans : goal.value-around-requires-clause-spans
+value-around-requires-clause-spans t c =
     let v = onward config_valueᵍ value_quiet value_slim 1 value_cost c.multiline_trivia-k.ensures.within c.in_ok-d.ensures
     c.in_ok-d.d refl in
     spans c.requires.ready c.multiline_trivia-k.ensures (omega arith) (onward_behind c.multiline_trivia-k.ensures v)
 
 pub value-returns : goal.value-returns
 value-returns t c =
-    node_done config_valueᵏ 0 c.multiline_trivia-k.ensures c.in_ok-d.ensures value_quiet c.in_ok-d.d refl c.finish.ensures
+    node_done config_valueᵏ 0 c.multiline_trivia-k.ensures c.in_ok-d.ensures value_quiet c.in_ok-d.d refl c.around.ensures

@@ -14,11 +14,11 @@ returns-in_err-d c =
     let p = err_from_is_err_and c.from_residual.result c.from_residual.ensures.1 in
     rw (p.1, p.2) (over_misses expressionᵏ 0 empty c.in_err-d.ensures refl)
 
-pub finish-requires-clause-spans : goal.finish-requires-clause-spans
-finish-requires-clause-spans c =
+pub around-requires-clause-spans : goal.around-requires-clause-spans
+around-requires-clause-spans c =
     let a = onward_solid expression_solid c.requires.within c.in_ok-d.ensures c.in_ok-d.d refl in
     spans c.requires c.trivia-k.ensures (omega arith) a
 
 pub returns : goal.returns
 returns c =
-    expression_done c.trivia-k.ensures c.in_ok-d.ensures c.in_ok-d.d refl c.finish.ensures
+    expression_done c.trivia-k.ensures c.in_ok-d.ensures c.in_ok-d.d refl c.around.ensures
