@@ -17,7 +17,7 @@ use Rattle.cursor.specs.Read.{Read}
 use Rattle.cursor.proofs.Agree.{got_miss, miss_deep}
 use Rattle.cursor.proofs.Laws.{rule_is, reading_is, reading_to, reads_leaf, opt_miss, opt_first, argument_out, argument_got}
 use Rattle.expression.specs.Mark.{mark}
-use Rattle.expression.specs.Around.{Around}
+use Rattle.lexis.specs.Around.{Finished}
 use Rattle.expression.proofs.Facts.{name_solid, opt_list_quiet, bracket_quiet, call_quiet}
 use Rattle.expression.proofs.Steps.{then_out, then_got, whole_out, whole_got, inside_out, inside_none, inside_on}
 use Rattle.cursor.specs.declared.Stop.TheVariants.{Miss, Deep}
@@ -54,8 +54,8 @@ module _ {s : List ℕ} (c : Cursor) (h : c.at.0 ≤ length s) (left : ℕ) {t t
       unfolding expression_parens
       parens_miss g = whole_out parensᵏ 0 c h (inside_on closed_expression left a d e z b) g
 
-      pub parens_got : (f : Cursor) → r₂ ≡ Ok f → c.count.0 ≤ f.count.0 → {t' : List ℕ} {r : Read}
-          → Around parensᵏ 0 c c.at.0 f t₂ t' r → Reads expression_parens s c left t t' r
+      pub parens_got : (f : Cursor) → r₂ ≡ Ok f → c.count.0 ≤ f.count.0 → {t' : List ℕ} {z : Cursor}
+          → Finished parensᵏ 0 c c.at.0 f t₂ t' z → Reads expression_parens s c left t t' (Ok z)
       unfolding expression_parens
       parens_got f q w x = whole_got parensᵏ 0 c h (inside_on closed_expression left a d e z b) bracket_quiet f q w x
 
@@ -125,7 +125,7 @@ module _ {s : List ℕ} (c : Cursor) (h : c.at.0 ≤ length s) (left : ℕ) {t t
     unfolding fn_call
     call_bare g = whole_out callᵏ 0 c h called g
 
-    pub call_got : (f : Cursor) → r₂ ≡ Ok f → c.count.0 ≤ f.count.0 → {t' : List ℕ} {r : Read} → Around callᵏ 0 c c.at.0 f t₂ t' r
-        → Reads fn_call s c left t t' r
+    pub call_got : (f : Cursor) → r₂ ≡ Ok f → c.count.0 ≤ f.count.0 → {t' : List ℕ} {z : Cursor} → Finished callᵏ 0 c c.at.0 f t₂ t' z
+        → Reads fn_call s c left t t' (Ok z)
     unfolding fn_call
     call_got f q w x = whole_got callᵏ 0 c h called call_quiet f q w x

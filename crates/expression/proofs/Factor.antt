@@ -19,7 +19,7 @@ use Rattle.cursor.specs.Read.{Read}
 use Rattle.cursor.proofs.Agree.{found, found_here, lost, got_miss, miss_deep, agrees_is, agrees_err}
 use Rattle.cursor.proofs.Laws.{lies, stepped, reading_is, seq_got, opt_miss, opt_first}
 use Rattle.expression.specs.Mark.{mark}
-use Rattle.expression.specs.Around.{Around}
+use Rattle.lexis.specs.Around.{Finished}
 use Rattle.expression.specs.Sign.{signs, signed_factor, Missed, Maybe}
 use Rattle.expression.proofs.Facts.{mark_solid, inner_solid, opt_mark_quiet, signs_quiet}
 use Rattle.expression.proofs.Flags.{Head, Sign, flags_none, flags_signed, inner_head, sign_row}
@@ -94,13 +94,13 @@ factor_split {s} {c} a =
 
 module _ {s : List ℕ} (c : Cursor) {k : Skip} (skips : Skips trivia s c.at.0 c.met k) {left : ℕ} {t t₁ : List ℕ} {r₁ : Read}
     (a : Reads expression_factor_inner s (cursor k.at.0 c.count.0 k.met) left t t₁ r₁) where
-  pub factor_got : (d : Cursor) → r₁ ≡ Ok d → c.count.0 ≤ d.count.0 → {t' : List ℕ} {r : Read} → Around factorᵏ 0 c k.at.0 d t₁ t' r
-      → Reads expression_factor s c left t t' r
-  factor_got d e h {t'} {r} b =
+  pub factor_got : (d : Cursor) → r₁ ≡ Ok d → c.count.0 ≤ d.count.0 → {t' : List ℕ} {z : Cursor} → Finished factorᵏ 0 c k.at.0 d t₁ t' z
+      → Reads expression_factor s c left t t' (Ok z)
+  factor_got d e h {t'} {z} b =
       factor_split (else_first
       (row_got factorᵏ flags c skips a.reading inner_solid.quieted d e h 0
       (λ l v x j p. sym (flags_none v (subst (Yields λ v q. Head v) p (inner_head (full s) l (here s k.at.0))).holds)) b)
-      signed_factor λ x q. got_miss _ x (sym b.answer ∙ q))
+      signed_factor λ x q. got_miss _ x q)
 
   pub factor_deep : r₁ ≡ Err Deep → Reads expression_factor s c left t t₁ (Err Deep)
   factor_deep e =
@@ -239,8 +239,8 @@ module _ {s : List ℕ} (c : Cursor) {k : Skip} (skips : Skips trivia s c.at.0 c
     signed_out h = row_out factorᵏ flags c skips (signs_on a.reading) h
 
     -- what the signs add to the flags is how many rows they have
-    pub signed_got : (d : Cursor) → r₃ ≡ Ok d → c.count.0 ≤ d.count.0 → {t' : List ℕ} {r : Read}
-        → Around factorᵏ (p.count.0 - c.count.0 + 2 * (q.count.0 - p.count.0)) c k.at.0 d t₃ t' r → Reads signed_factor s c left t t' r
+    pub signed_got : (d : Cursor) → r₃ ≡ Ok d → c.count.0 ≤ d.count.0 → {t' : List ℕ} {z : Cursor}
+        → Finished factorᵏ (p.count.0 - c.count.0 + 2 * (q.count.0 - p.count.0)) c k.at.0 d t₃ t' z → Reads signed_factor s c left t t' (Ok z)
     unfolding signed_factor
     signed_got d e h b = row_got factorᵏ flags c skips (signs_on a.reading) signs_quiet d e h (p.count.0 - c.count.0 + 2 * (q.count.0 - p.count.0)) detail b
       where

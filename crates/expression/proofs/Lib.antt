@@ -4,5 +4,6 @@ pub mod Parts
 pub mod Flags
 pub mod Factor
 pub mod Terms
+pub mod Levels
 pub mod Calls
 pub mod Lists

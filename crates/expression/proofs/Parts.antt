@@ -15,7 +15,7 @@ use Rattle.cursor.specs.Read.{Read}
 use Rattle.cursor.proofs.Agree.{got_miss}
 use Rattle.cursor.proofs.Laws.{Solid, seq_got, opt_miss, opt_first}
 use Rattle.expression.specs.Mark.{mark}
-use Rattle.expression.specs.Around.{Around}
+use Rattle.lexis.specs.Around.{Finished}
 use Rattle.expression.specs.Path.{modified_path}
 use Rattle.expression.proofs.Facts.{mark_solid}
 use Rattle.expression.proofs.Steps.{leaf_out, leaf_got}
@@ -69,15 +69,15 @@ module _ {s : List ℕ} (c : Cursor) (h : c.at.0 ≤ length s) {t t₁ : List �
   unfolding interpolated_string_factor
   string_out a g = leaf_out string_factorᵏ 0 c h a g
 
-  module _ (d : Cursor) (e : r₁ ≡ Ok d) (g : c.count.0 ≤ d.count.0) {t' : List ℕ} {r : Read} where
-    pub value_got : Leafs modified_path s c t t₁ r₁ → Around identifierᵏ 0 c c.at.0 d t₁ t' r → Leafs identifier_value s c t t' r
+  module _ (d : Cursor) (e : r₁ ≡ Ok d) (g : c.count.0 ≤ d.count.0) {t' : List ℕ} {z : Cursor} where
+    pub value_got : Leafs modified_path s c t t₁ r₁ → Finished identifierᵏ 0 c c.at.0 d t₁ t' z → Leafs identifier_value s c t t' (Ok z)
     unfolding identifier_value modified_path
     value_got a b = leaf_got identifierᵏ 0 c h a path_solid.quieted d e g b
 
-    pub pc_got : Leafs (mark 42) s c t t₁ r₁ → Around current_pcᵏ 0 c c.at.0 d t₁ t' r → Leafs current_pc s c t t' r
+    pub pc_got : Leafs (mark 42) s c t t₁ r₁ → Finished current_pcᵏ 0 c c.at.0 d t₁ t' z → Leafs current_pc s c t t' (Ok z)
     unfolding current_pc
     pc_got a b = leaf_got current_pcᵏ 0 c h a (mark_solid 42).quieted d e g b
 
-    pub string_got : Leafs interpolated_string s c t t₁ r₁ → Around string_factorᵏ 0 c c.at.0 d t₁ t' r → Leafs interpolated_string_factor s c t t' r
+    pub string_got : Leafs interpolated_string s c t t₁ r₁ → Finished string_factorᵏ 0 c c.at.0 d t₁ t' z → Leafs interpolated_string_factor s c t t' (Ok z)
     unfolding interpolated_string_factor
     string_got a b = leaf_got string_factorᵏ 0 c h a string_solid.quieted d e g b

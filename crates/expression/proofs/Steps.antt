@@ -20,7 +20,7 @@ use Rattle.cursor.proofs.Agree.{lost}
 use Rattle.cursor.proofs.Laws.{Stepped, reading_to, skips_empty, seq_out, seq_got, or_miss, or_first, node_out, node_got}
 use Rattle.cursor.proofs.Laws.{bracket_out, bracket_none, bracket_in}
 use Rattle.expression.specs.Mark.{mark}
-use Rattle.expression.specs.Around.{Around}
+use Rattle.lexis.specs.Around.{Spans, Finished}
 use Rattle.expression.proofs.Facts.{trivia_quiet}
 use Rattle.cursor.specs.declared.Stop.TheVariants.{Miss, Deep}
 use Rattle.std.specs.Prelude.{Ok, Err, IsErr}
@@ -45,14 +45,13 @@ ready_step h st = record { small = h.small; within = st.within; few = omega (ari
 
 -- what `around` asks for
 pub around_fits : {s : List ℕ} {c d : Cursor} → Ready 0 s c → Ready 0 s d → c.count.0 ≤ d.count.0 → (low : ℕ) → low ≤ length s
-    → (detail : ℕ) → detail < 2 ^ 32
-    → (c.count.0 ≤ d.count.0) × (d.count.0 < 2 ^ 31) × (c.at.0 < 2 ^ 32) × (low < 2 ^ 32) × (d.at.0 < 2 ^ 32) × (detail < 2 ^ 32)
-around_fits h i g low e detail y =
+    → Spans c low d
+around_fits h i g low e =
     let small = h.small in
     let near = h.within in
     let far = i.within in
     let few = i.few in
-    (g, omega arith, omega arith, omega arith, omega arith, y)
+    record { grown = g; few = omega arith; start = omega arith; body = omega arith; end = omega arith }
 
 -- One after the other, one or the other ----------------------------------------
 
@@ -77,10 +76,10 @@ module _ (k : ℕ) (f : Rows → ℕ) {w : Parser} {s : List ℕ} (c : Cursor) {
   row_at : {l lim : ℕ} {t t₁ : List ℕ} {r₁ : Read} → Reading m s l lim x.at.0 x.met c.count.0 t t₁ r₁
       → T (quiet m) → (d : Cursor) → r₁ ≡ Ok d → c.count.0 ≤ d.count.0 → (e : ℕ)
       → ((v : Rows) (b : Bool) (j : ℕ) → scan (full s) m l (here s x.at.0) ≡ fits v (here s d.at.0) b j → e ≡ f v)
-      → {t' : List ℕ} {r : Read} → Around k e c x.at.0 d t₁ t' r → Reading (node k f w m) s l lim c.at.0 c.met c.count.0 t t' r
+      → {t' : List ℕ} {z : Cursor} → Finished k e c x.at.0 d t₁ t' z → Reading (node k f w m) s l lim c.at.0 c.met c.count.0 t t' (Ok z)
   row_at {l} {lim} {t} a u d q h e detail {t'} b =
-      subst (λ (r : Read). Reading (node k f w m) s l lim c.at.0 c.met c.count.0 t t' r) (sym b.answer)
-      (reading_to b.table (node_got k f skips a u d q (d.count.0 + 1 - c.count.0) e (omega arith) detail))
+      subst (λ (z : Cursor). Reading (node k f w m) s l lim c.at.0 c.met c.count.0 t t' (Ok z)) (sym b.is)
+      (reading_to b.table (node_got k f skips a u d q b.size e b.counts detail))
 
   module _ {left : ℕ} {t t₁ : List ℕ} {r₁ : Read} (a : (l : ℕ) → Reading m s l (l + left) x.at.0 x.met c.count.0 t t₁ r₁) where
     pub row_out : IsErr r₁ → Reads (node k f w m) s c left t t₁ r₁
@@ -88,7 +87,7 @@ module _ (k : ℕ) (f : Rows → ℕ) {w : Parser} {s : List ℕ} (c : Cursor) {
 
     pub row_got : T (quiet m) → (d : Cursor) → r₁ ≡ Ok d → c.count.0 ≤ d.count.0 → (e : ℕ)
         → ((l : ℕ) (v : Rows) (b : Bool) (j : ℕ) → scan (full s) m l (here s x.at.0) ≡ fits v (here s d.at.0) b j → e ≡ f v)
-        → {t' : List ℕ} {r : Read} → Around k e c x.at.0 d t₁ t' r → Reads (node k f w m) s c left t t' r
+        → {t' : List ℕ} {z : Cursor} → Finished k e c x.at.0 d t₁ t' z → Reads (node k f w m) s c left t t' (Ok z)
     row_got u d q h e detail b = record { reading = λ l. row_at (a l) u d q h e (detail l) b }
 
 -- a row around what begins here
@@ -97,7 +96,7 @@ module _ (k e : ℕ) {s : List ℕ} (c : Cursor) (h : c.at.0 ≤ length s) {m : 
   whole_out a g = row_out k (always e) c (skips_empty s c.at.0 c.met h) a.reading g
 
   pub whole_got : {left : ℕ} → Reads m s c left t t₁ r₁ → T (quiet m) → (d : Cursor) → r₁ ≡ Ok d → c.count.0 ≤ d.count.0
-      → {t' : List ℕ} {r : Read} → Around k e c c.at.0 d t₁ t' r → Reads (node k (always e) empty m) s c left t t' r
+      → {t' : List ℕ} {z : Cursor} → Finished k e c c.at.0 d t₁ t' z → Reads (node k (always e) empty m) s c left t t' (Ok z)
   whole_got a u d q g b = row_got k (always e) c (skips_empty s c.at.0 c.met h) a.reading u d q g e (λ l v x j p. refl) b
 
   -- the same where no level is entered
@@ -105,7 +104,7 @@ module _ (k e : ℕ) {s : List ℕ} (c : Cursor) (h : c.at.0 ≤ length s) {m : 
   leaf_out a g = record { reading = λ l lim. node_out k (always e) (skips_empty s c.at.0 c.met h) (a.reading l lim) g }
 
   pub leaf_got : Leafs m s c t t₁ r₁ → T (quiet m) → (d : Cursor) → r₁ ≡ Ok d → c.count.0 ≤ d.count.0
-      → {t' : List ℕ} {r : Read} → Around k e c c.at.0 d t₁ t' r → Leafs (node k (always e) empty m) s c t t' r
+      → {t' : List ℕ} {z : Cursor} → Finished k e c c.at.0 d t₁ t' z → Leafs (node k (always e) empty m) s c t t' (Ok z)
   leaf_got a u d q g b = record { reading = λ l lim. row_at k (always e) c (skips_empty s c.at.0 c.met h) (a.reading l lim) u d q g e (λ v x j p. refl) b }
 
 -- Brackets -------------------------------------------------------------------

@@ -1,4 +1,4 @@
 pub mod Mark
-pub mod Around
 pub mod Sign
 pub mod Path
+pub mod Level

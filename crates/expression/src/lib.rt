@@ -6,39 +6,33 @@ ghost use Rattle.reading.specs.Grammar.{◌▸◌, ◌or◌};
 ghost use Rattle.reading.specs.Rules.{trivia, arg_list, expression_arg, call_args, call_parens, fn_call, identifier_value, current_pc, closed_expression, expression_parens, interpolated_string_factor, expression_factor_inner, expression_factor, term_operator, expression_term, expression_operator, expression};
 ghost use Rattle.cursor.specs.Text.{Skips};
 ghost use Rattle.cursor.specs.Agree.{Ready, Reads, Leafs};
-ghost use Rattle.table.specs.Kinds.{kind_number};
 ghost use Rattle.expression.specs.Mark.{mark};
-ghost use Rattle.expression.specs.Around.{Around};
+ghost use Rattle.expression.specs.Level.{operator_of, part_of, chain_of};
 ghost use Rattle.expression.specs.Sign.{signed_factor, Missed, Maybe};
 ghost use Rattle.expression.specs.Path.{modified_path};
 
 use cursor::{Cursor, Read, Skip, Stop};
 use lexis::{identifier, mark, operator};
 use literal::{number, text};
-use table::{Kind, Pos, RowIndex};
+use table::{Kind, RowIndex};
 
 // Parts -----------------------------------------------------------------------
 
-// The row around what was read from `c` to `d`.
-fn around(c: Cursor, low: Pos, d: Cursor, kind: Kind, detail: usize, rows: &mut [u32]) -> Read
-    requires { (c.count.0 ≤ d.count.0) × (d.count.0 < 2 ^ 31) × (c.at.0 < 2 ^ 32) × (low.0 < 2 ^ 32) × (d.at.0 < 2 ^ 32) × (detail < 2 ^ 32) }
-    ensures { Around (kind_number kind) detail c low.0 d rows.old rows.new result }
+// Which operators stand between the parts of an expression: the ones between terms, or the tighter ones between factors.
+#[derive(Clone, Copy)]
+enum Level {
+    Terms,
+    Factors,
+}
+
+fn level_operator(s: &[u8], c: Cursor, level: Level, rows: &mut [u32]) -> Read
+    requires { Ready 4 s.now c }
+    ensures { Leafs (operator_of level) s.now c rows.old rows.new result }
 {
-    let n = d.count.0;
-    table::push_row(
-        rows,
-        d.count,
-        kind,
-        n + 1 - c.count.0,
-        c.at,
-        low,
-        d.at,
-        detail,
-    );
-    Ok(Cursor {
-        count: RowIndex(n + 1),
-        ..d
-    })
+    match level {
+        Level::Terms => operator::expression_operator(s, c, rows),
+        Level::Factors => operator::term_operator(s, c, rows),
+    }
 }
 
 // A character behind its trivia.
@@ -69,7 +63,7 @@ fn identifier_value(s: &[u8], c: Cursor, k: Skip, rows: &mut [u32]) -> Read
     ensures { Leafs identifier_value s.now c rows.old rows.new result }
 {
     let d = modified_path(s, c, k, rows)?;
-    around(c, c.at, d, Kind::Identifier, 0, rows)
+    Ok(mark::around(c, c.at, d, Kind::Identifier, 0, rows))
 }
 
 fn modified_path(s: &[u8], c: Cursor, k: Skip, rows: &mut [u32]) -> Read
@@ -100,7 +94,7 @@ fn current_pc(s: &[u8], c: Cursor, k: Skip, rows: &mut [u32]) -> Read
     ensures { Leafs current_pc s.now c rows.old rows.new result }
 {
     let d = mark::char(s, c, k, b'*', rows)?;
-    around(c, c.at, d, Kind::CurrentPc, 0, rows)
+    Ok(mark::around(c, c.at, d, Kind::CurrentPc, 0, rows))
 }
 
 fn interpolated_string_factor(s: &[u8], c: Cursor, k: Skip, rows: &mut [u32]) -> Read
@@ -109,7 +103,7 @@ fn interpolated_string_factor(s: &[u8], c: Cursor, k: Skip, rows: &mut [u32]) ->
     ensures { Leafs interpolated_string_factor s.now c rows.old rows.new result }
 {
     let d = text::string(s, c, k, true, rows)?;
-    around(c, c.at, d, Kind::StringFactor, 0, rows)
+    Ok(mark::around(c, c.at, d, Kind::StringFactor, 0, rows))
 }
 
 // The cycle ---------------------------------------------------------------------
@@ -121,41 +115,7 @@ pub fn expression(s: &[u8], c: Cursor, k: Skip, left: usize, rows: &mut [u32]) -
     requires skips { Skips trivia s.now c.at.0 c.met k }
     ensures { Reads expression s.now c left rows.old rows.new result }
 {
-    let mut d = expression_term(s, c, k, left, rows)?;
-    loop {
-        match next_term(s, d, left, rows) {
-            Ok(e) => {
-                let n = e.count.0;
-                table::push_row(
-                    rows,
-                    e.count,
-                    Kind::Binary,
-                    n + 1 - c.count.0,
-                    k.at,
-                    k.at,
-                    e.at,
-                    0,
-                );
-                d = Cursor {
-                    count: RowIndex(n + 1),
-                    ..e
-                };
-            }
-            Err(Stop::Miss(met)) => return Ok(Cursor { met, ..d }),
-            Err(Stop::Deep) => return Err(Stop::Deep),
-        }
-    }
-}
-
-// An operator and a term.
-#[cycle(expression)]
-fn next_term(s: &[u8], c: Cursor, left: usize, rows: &mut [u32]) -> Read
-    requires { Ready 0 s.now c }
-    ensures { Reads (expression_operator ▸ expression_term) s.now c left rows.old rows.new result }
-{
-    let d = operator::expression_operator(s, c, rows)?;
-    let k = trivia::trivia(s, d.at, d.met);
-    expression_term(s, d, k, left, rows)
+    chain(s, c, k, Level::Terms, left, rows)
 }
 
 // Factors with `*` and the like between them, folded to the left.
@@ -165,41 +125,49 @@ pub fn expression_term(s: &[u8], c: Cursor, k: Skip, left: usize, rows: &mut [u3
     requires skips { Skips trivia s.now c.at.0 c.met k }
     ensures { Reads expression_term s.now c left rows.old rows.new result }
 {
-    let mut d = expression_factor(s, c, k, left, rows)?;
+    chain(s, c, k, Level::Factors, left, rows)
+}
+
+// Parts of a level with its operators between them.
+#[cycle(expression)]
+fn chain(s: &[u8], c: Cursor, k: Skip, level: Level, left: usize, rows: &mut [u32]) -> Read
+    requires ready { Ready 0 s.now c }
+    requires skips { Skips trivia s.now c.at.0 c.met k }
+    ensures { Reads (chain_of level) s.now c left rows.old rows.new result }
+{
+    let start = Cursor { at: k.at, ..c };
+    let mut d = part(s, c, k, level, left, rows)?;
     loop {
-        match next_factor(s, d, left, rows) {
-            Ok(e) => {
-                let n = e.count.0;
-                table::push_row(
-                    rows,
-                    e.count,
-                    Kind::Binary,
-                    n + 1 - c.count.0,
-                    k.at,
-                    k.at,
-                    e.at,
-                    0,
-                );
-                d = Cursor {
-                    count: RowIndex(n + 1),
-                    ..e
-                };
-            }
+        match next_part(s, d, level, left, rows) {
+            Ok(e) => d = mark::around(start, k.at, e, Kind::Binary, 0, rows),
             Err(Stop::Miss(met)) => return Ok(Cursor { met, ..d }),
             Err(Stop::Deep) => return Err(Stop::Deep),
         }
     }
 }
 
-// An operator and a factor.
+// A term or a factor.
 #[cycle(expression)]
-fn next_factor(s: &[u8], c: Cursor, left: usize, rows: &mut [u32]) -> Read
-    requires { Ready 0 s.now c }
-    ensures { Reads (term_operator ▸ expression_factor) s.now c left rows.old rows.new result }
+fn part(s: &[u8], c: Cursor, k: Skip, level: Level, left: usize, rows: &mut [u32]) -> Read
+    requires ready { Ready 0 s.now c }
+    requires skips { Skips trivia s.now c.at.0 c.met k }
+    ensures { Reads (part_of level) s.now c left rows.old rows.new result }
 {
-    let d = operator::term_operator(s, c, rows)?;
+    match level {
+        Level::Terms => expression_term(s, c, k, left, rows),
+        Level::Factors => expression_factor(s, c, k, left, rows),
+    }
+}
+
+// An operator and a part.
+#[cycle(expression)]
+fn next_part(s: &[u8], c: Cursor, level: Level, left: usize, rows: &mut [u32]) -> Read
+    requires { Ready 0 s.now c }
+    ensures { Reads (operator_of level ▸ part_of level) s.now c left rows.old rows.new result }
+{
+    let d = level_operator(s, c, level, rows)?;
     let k = trivia::trivia(s, d.at, d.met);
-    expression_factor(s, d, k, left, rows)
+    part(s, d, k, level, left, rows)
 }
 
 // A factor. It is tried again, behind signs, only where it does not fit as it is.
@@ -215,7 +183,7 @@ pub fn expression_factor(s: &[u8], c: Cursor, k: Skip, left: usize, rows: &mut [
         ..c
     };
     match expression_factor_inner(s, start, k, left, rows) {
-        Ok(d) => around(c, k.at, d, Kind::Factor, 0, rows),
+        Ok(d) => Ok(mark::around(c, k.at, d, Kind::Factor, 0, rows)),
         Err(Stop::Miss(met)) => signed(s, Cursor { met, ..c }, Skip { met, ..k }, left, rows),
         Err(Stop::Deep) => Err(Stop::Deep),
     }
@@ -242,7 +210,7 @@ fn signed(s: &[u8], c: Cursor, k: Skip, left: usize, rows: &mut [u32]) -> Read
     let j = trivia::trivia(s, q.at, q.met);
     let d = expression_factor_inner(s, q, j, left, rows)?;
     let flags = p.count.0 - c.count.0 + 2 * (q.count.0 - p.count.0);
-    around(c, k.at, d, Kind::Factor, flags, rows)
+    Ok(mark::around(c, k.at, d, Kind::Factor, flags, rows))
 }
 
 // The alternatives in the Rust's order, each behind the trivia `k`. A call skips its own, since its name may come after line ends.
@@ -331,7 +299,7 @@ fn expression_parens(s: &[u8], c: Cursor, k: Skip, left: usize, rows: &mut [u32]
         return Err(Stop::Deep);
     }
     let e = closed(s, d, left - 1, rows)?;
-    around(c, c.at, e, Kind::Parens, 0, rows)
+    Ok(mark::around(c, c.at, e, Kind::Parens, 0, rows))
 }
 
 // An expression and `)`, behind a `(`.
@@ -355,7 +323,7 @@ fn fn_call(s: &[u8], c: Cursor, left: usize, rows: &mut [u32]) -> Read
     let k = trivia::multiline_trivia(s, c.at, c.met);
     let d = identifier::name(s, c, k, rows)?;
     let e = call_parens(s, d, left, rows)?;
-    around(c, c.at, e, Kind::Call, 0, rows)
+    Ok(mark::around(c, c.at, e, Kind::Call, 0, rows))
 }
 
 // `(`, arguments, `)`.

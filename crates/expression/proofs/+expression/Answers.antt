@@ -1,4 +1,4 @@
-use mathlib.Core.Path.{refl, ap, ◌∙◌}
+use mathlib.Core.Path.{◌≡◌, refl, ap, ◌∙◌}
 use Rattle.std.specs.Prelude.{Err}
 use Rattle.std.proofs.lemmas.Result.{err_from_is_err_and}
 use native.Mathlib.Omega.{arith}
@@ -12,7 +12,9 @@ use Rattle.expression.proofs.Facts.{term_operator_solid, expression_operator_sol
 use Rattle.expression.proofs.Steps.{ready_four, ready_met, ready_skip, ready_step, around_fits, then_out, then_got, else_first, else_miss, skips_again, noted_miss, noted_on, skips_noted}
 use Rattle.expression.proofs.Parts.{mname_is}
 use Rattle.expression.proofs.Factor.{inner_first, inner_second, inner_third, factor_got, factor_deep, factor_miss, factor_skips, factor_missed, signed_none, signed_out, signed_got}
-use Rattle.expression.proofs.Terms.{term_out, term_got, expression_out, expression_got}
+use Rattle.expression.proofs.Levels.{part_solid, operator_solid, next_solid, next_pays, level_out, level_got, part_rank}
+use Rattle.cursor.specs.Agree.{Ready}
+use Rattle.expression.specs.Level.{part_of, chain_of}
 use Rattle.expression.proofs.Calls.{closed_out, closed_got, parens_out, parens_none, parens_miss, parens_got, argument_none, argument_one, args_got, args_miss, args_deep}
 use Rattle.expression.proofs.Calls.{open_out, open_none, open_on, call_out, call_bare, call_got}
 use Rattle.expression.proofs.+expression.Goals as goal
@@ -123,196 +125,14 @@ pub closed-returns : goal.closed-returns
 closed-returns t c =
     closed_got c.requires.le_at c.requires.ready.within c.in_ok-d.ensures c.in_ok-d.d refl c.mark.ensures
 
-pub expression-returns-in_err-d : goal.expression-returns-in_err-d
-expression-returns-in_err-d t c =
-    let p = err_from_is_err_and c.from_residual.result c.from_residual.ensures.1 in
-    rw (p.1, p.2) (expression_out c.in_err-d.ensures refl)
-
-pub expression-loop-e-init : goal.expression-loop-e-init
-expression-loop-e-init t c =
-    let s1 = stepped term_solid c.in_ok-d.d c.requires.ready.within (c.in_ok-d.ensures.reading 0) refl in
-    chained_none _ _ _ _ _ _ _ _ _ _ s1.within s1.grown
-
-pub expression-next_term-requires : goal.expression-next_term-requires
-expression-next_term-requires t c =
-    let s1 = stepped term_solid c.in_ok-d.d c.requires.ready.within (c.in_ok-d.ensures.reading 0) refl in
-    (omega arith, progress_ready c.loop-e.invariant.progress (ready_step c.requires.ready s1))
-
-pub expression-overflow_add-n : goal.expression-overflow_add-n
-expression-overflow_add-n t c =
-    let s1 = stepped term_solid c.in_ok-d.d c.requires.ready.within (c.in_ok-d.ensures.reading 0) refl in
-    let st = chain_step expression_chain c.loop-e.invariant c.next_term.ensures c.in-Ok.e c.in-Ok.is in
-    omega (
-      arith,
-      st.within,
-      st.on,
-      st.grown,
-      st.rows,
-      c.loop-e.invariant.grown,
-      c.loop-e.invariant.progress.rows,
-      c.loop-e.invariant.progress.within,
-      s1.rows,
-      s1.within,
-      c.requires.ready.few,
-      c.requires.ready.small,
-      c.requires.skips.within,
-    )
-
-pub expression-overflow_sub-n : goal.expression-overflow_sub-n
-expression-overflow_sub-n t c =
-    let s1 = stepped term_solid c.in_ok-d.d c.requires.ready.within (c.in_ok-d.ensures.reading 0) refl in
-    let st = chain_step expression_chain c.loop-e.invariant c.next_term.ensures c.in-Ok.e c.in-Ok.is in
-    omega (
-      arith,
-      st.within,
-      st.on,
-      st.grown,
-      st.rows,
-      c.loop-e.invariant.grown,
-      c.loop-e.invariant.progress.rows,
-      c.loop-e.invariant.progress.within,
-      s1.rows,
-      s1.within,
-      c.requires.ready.few,
-      c.requires.ready.small,
-      c.requires.skips.within,
-    )
-
-pub expression-push_row-requires : goal.expression-push_row-requires
-expression-push_row-requires t c =
-    let s1 = stepped term_solid c.in_ok-d.d c.requires.ready.within (c.in_ok-d.ensures.reading 0) refl in
-    let st = chain_step expression_chain c.loop-e.invariant c.next_term.ensures c.in-Ok.e c.in-Ok.is in (
-      omega (
-        arith,
-        st.within,
-        st.on,
-        st.grown,
-        st.rows,
-        c.loop-e.invariant.grown,
-        c.loop-e.invariant.progress.rows,
-        c.loop-e.invariant.progress.within,
-        s1.rows,
-        s1.within,
-        c.requires.ready.few,
-        c.requires.ready.small,
-        c.requires.skips.within,
-      ),
-      omega (
-        arith,
-        st.within,
-        st.on,
-        st.grown,
-        st.rows,
-        c.loop-e.invariant.grown,
-        c.loop-e.invariant.progress.rows,
-        c.loop-e.invariant.progress.within,
-        s1.rows,
-        s1.within,
-        c.requires.ready.few,
-        c.requires.ready.small,
-        c.requires.skips.within,
-      ),
-      omega (
-        arith,
-        st.within,
-        st.on,
-        st.grown,
-        st.rows,
-        c.loop-e.invariant.grown,
-        c.loop-e.invariant.progress.rows,
-        c.loop-e.invariant.progress.within,
-        s1.rows,
-        s1.within,
-        c.requires.ready.few,
-        c.requires.ready.small,
-        c.requires.skips.within,
-      ),
-      omega (
-        arith,
-        st.within,
-        st.on,
-        st.grown,
-        st.rows,
-        c.loop-e.invariant.grown,
-        c.loop-e.invariant.progress.rows,
-        c.loop-e.invariant.progress.within,
-        s1.rows,
-        s1.within,
-        c.requires.ready.few,
-        c.requires.ready.small,
-        c.requires.skips.within,
-      ),
-      omega (
-        arith,
-        st.within,
-        st.on,
-        st.grown,
-        st.rows,
-        c.loop-e.invariant.grown,
-        c.loop-e.invariant.progress.rows,
-        c.loop-e.invariant.progress.within,
-        s1.rows,
-        s1.within,
-        c.requires.ready.few,
-        c.requires.ready.small,
-        c.requires.skips.within,
-      ),
-      omega arith,
-    )
-
-pub expression-overflow_add-d : goal.expression-overflow_add-d
-expression-overflow_add-d t c =
-    let s1 = stepped term_solid c.in_ok-d.d c.requires.ready.within (c.in_ok-d.ensures.reading 0) refl in
-    let st = chain_step expression_chain c.loop-e.invariant c.next_term.ensures c.in-Ok.e c.in-Ok.is in
-    omega (
-      arith,
-      st.within,
-      st.on,
-      st.grown,
-      st.rows,
-      c.loop-e.invariant.grown,
-      c.loop-e.invariant.progress.rows,
-      c.loop-e.invariant.progress.within,
-      s1.rows,
-      s1.within,
-      c.requires.ready.few,
-      c.requires.ready.small,
-      c.requires.skips.within,
-    )
-
-pub expression-loop-e-smaller : goal.expression-loop-e-smaller
-expression-loop-e-smaller t c =
-    let s1 = stepped term_solid c.in_ok-d.d c.requires.ready.within (c.in_ok-d.ensures.reading 0) refl in
-    let st = chain_step expression_chain c.loop-e.invariant c.next_term.ensures c.in-Ok.e c.in-Ok.is in
-    omega (arith, st.on, st.within)
-
-pub expression-loop-e-preserved : goal.expression-loop-e-preserved
-expression-loop-e-preserved t c =
-    let s1 = stepped term_solid c.in_ok-d.d c.requires.ready.within (c.in_ok-d.ensures.reading 0) refl in
-    let st = chain_step expression_chain c.loop-e.invariant c.next_term.ensures c.in-Ok.e c.in-Ok.is in
-    chain_more expression_chain c.loop-e.invariant c.next_term.ensures expression_pair c.in-Ok.e c.in-Ok.is _
-    (omega (arith, st.grown, c.loop-e.invariant.grown)) c.next_term.auto.rows c.push_row.ensures c.push_row.auto.rows
-
-pub expression-returns-in-Err-Miss : goal.expression-returns-in-Err-Miss
-expression-returns-in-Err-Miss t c =
-    rw c.in-Err-Miss.met-is
-    (expression_got c.requires.skips c.in_ok-d.d refl c.in_ok-d.ensures
-    (chain_end expression_chain c.loop-e.invariant c.next_term.ensures _ (c.in-Err-Miss.is ∙ ap Err c.in-Err-Miss.field-0-is)))
-
-pub expression-returns-in-Err-Deep : goal.expression-returns-in-Err-Deep
-expression-returns-in-Err-Deep t c =
-    expression_got c.requires.skips c.in_ok-d.d refl c.in_ok-d.ensures
-    (chain_deep expression_chain c.loop-e.invariant c.next_term.ensures (c.in-Err-Deep.is ∙ ap Err c.in-Err-Deep.field-0-is))
-
 pub expression_factor-expression_factor_inner-requires : goal.expression_factor-expression_factor_inner-requires
 expression_factor-expression_factor_inner-requires t c =
     (omega arith, (ready_skip c.requires.ready c.requires.skips, skips_again c.requires.skips))
 
-pub expression_factor-around-requires : goal.expression_factor-around-requires
-expression_factor-around-requires t c =
+pub expression_factor-around-requires-clause-spans : goal.expression_factor-around-requires-clause-spans
+expression_factor-around-requires-clause-spans t c =
     let st = stepped inner_solid c.in-Ok.d c.requires.skips.within (c.expression_factor_inner.ensures.reading 0) c.in-Ok.is in
     around_fits c.requires.ready (ready_step (ready_skip c.requires.ready c.requires.skips) st) (omega (arith, st.grown)) _ c.requires.skips.within
-    0 (lit< tt)
 
 pub expression_factor-signed-requires : goal.expression_factor-signed-requires
 expression_factor-signed-requires t c = (
@@ -384,12 +204,11 @@ expression_parens-returns-in_err-e t c =
     rw (p.1, p.2) (parens_miss c.args.c c.requires.ready.within c.args.left (c.in_ok-d.ensures.leafs trivia c.requires.skips) c.in_ok-d.d refl
     c.if-left-eq0.false c.in_err-e.ensures refl)
 
-pub expression_parens-around-requires : goal.expression_parens-around-requires
-expression_parens-around-requires t c =
+pub expression_parens-around-requires-clause-spans : goal.expression_parens-around-requires-clause-spans
+expression_parens-around-requires-clause-spans t c =
     let s1 = stepped (mark_solid 40) c.in_ok-d.d c.requires.ready.within ((c.in_ok-d.ensures.leafs trivia c.requires.skips).reading 0 0) refl in
     let s2 = stepped closed_solid c.in_ok-e.e s1.within (c.in_ok-e.ensures.reading 0) refl in
-    around_fits c.requires.ready (ready_step (ready_step c.requires.ready s1) s2) (omega (arith, s1.grown, s2.grown)) _ c.requires.ready.within 0
-    (lit< tt)
+    around_fits c.requires.ready (ready_step (ready_step c.requires.ready s1) s2) (omega (arith, s1.grown, s2.grown)) _ c.requires.ready.within
 
 pub expression_parens-returns : goal.expression_parens-returns
 expression_parens-returns t c =
@@ -397,187 +216,6 @@ expression_parens-returns t c =
     let s2 = stepped closed_solid c.in_ok-e.e s1.within (c.in_ok-e.ensures.reading 0) refl in
     parens_got c.args.c c.requires.ready.within c.args.left (c.in_ok-d.ensures.leafs trivia c.requires.skips) c.in_ok-d.d refl
     c.if-left-eq0.false c.in_ok-e.ensures c.in_ok-e.e refl (omega (arith, s1.grown, s2.grown)) c.around.ensures
-
-pub expression_term-returns-in_err-d : goal.expression_term-returns-in_err-d
-expression_term-returns-in_err-d t c =
-    let p = err_from_is_err_and c.from_residual.result c.from_residual.ensures.1 in
-    rw (p.1, p.2) (term_out c.in_err-d.ensures refl)
-
-pub expression_term-loop-e-init : goal.expression_term-loop-e-init
-expression_term-loop-e-init t c =
-    let s1 = stepped factor_solid c.in_ok-d.d c.requires.ready.within (c.in_ok-d.ensures.reading 0) refl in
-    chained_none _ _ _ _ _ _ _ _ _ _ s1.within s1.grown
-
-pub expression_term-next_factor-requires : goal.expression_term-next_factor-requires
-expression_term-next_factor-requires t c =
-    let s1 = stepped factor_solid c.in_ok-d.d c.requires.ready.within (c.in_ok-d.ensures.reading 0) refl in
-    (omega arith, progress_ready c.loop-e.invariant.progress (ready_step c.requires.ready s1))
-
-pub expression_term-overflow_add-n : goal.expression_term-overflow_add-n
-expression_term-overflow_add-n t c =
-    let s1 = stepped factor_solid c.in_ok-d.d c.requires.ready.within (c.in_ok-d.ensures.reading 0) refl in
-    let st = chain_step term_chain c.loop-e.invariant c.next_factor.ensures c.in-Ok.e c.in-Ok.is in
-    omega (
-      arith,
-      st.within,
-      st.on,
-      st.grown,
-      st.rows,
-      c.loop-e.invariant.grown,
-      c.loop-e.invariant.progress.rows,
-      c.loop-e.invariant.progress.within,
-      s1.rows,
-      s1.within,
-      c.requires.ready.few,
-      c.requires.ready.small,
-      c.requires.skips.within,
-    )
-
-pub expression_term-overflow_sub-n : goal.expression_term-overflow_sub-n
-expression_term-overflow_sub-n t c =
-    let s1 = stepped factor_solid c.in_ok-d.d c.requires.ready.within (c.in_ok-d.ensures.reading 0) refl in
-    let st = chain_step term_chain c.loop-e.invariant c.next_factor.ensures c.in-Ok.e c.in-Ok.is in
-    omega (
-      arith,
-      st.within,
-      st.on,
-      st.grown,
-      st.rows,
-      c.loop-e.invariant.grown,
-      c.loop-e.invariant.progress.rows,
-      c.loop-e.invariant.progress.within,
-      s1.rows,
-      s1.within,
-      c.requires.ready.few,
-      c.requires.ready.small,
-      c.requires.skips.within,
-    )
-
-pub expression_term-push_row-requires : goal.expression_term-push_row-requires
-expression_term-push_row-requires t c =
-    let s1 = stepped factor_solid c.in_ok-d.d c.requires.ready.within (c.in_ok-d.ensures.reading 0) refl in
-    let st = chain_step term_chain c.loop-e.invariant c.next_factor.ensures c.in-Ok.e c.in-Ok.is in (
-      omega (
-        arith,
-        st.within,
-        st.on,
-        st.grown,
-        st.rows,
-        c.loop-e.invariant.grown,
-        c.loop-e.invariant.progress.rows,
-        c.loop-e.invariant.progress.within,
-        s1.rows,
-        s1.within,
-        c.requires.ready.few,
-        c.requires.ready.small,
-        c.requires.skips.within,
-      ),
-      omega (
-        arith,
-        st.within,
-        st.on,
-        st.grown,
-        st.rows,
-        c.loop-e.invariant.grown,
-        c.loop-e.invariant.progress.rows,
-        c.loop-e.invariant.progress.within,
-        s1.rows,
-        s1.within,
-        c.requires.ready.few,
-        c.requires.ready.small,
-        c.requires.skips.within,
-      ),
-      omega (
-        arith,
-        st.within,
-        st.on,
-        st.grown,
-        st.rows,
-        c.loop-e.invariant.grown,
-        c.loop-e.invariant.progress.rows,
-        c.loop-e.invariant.progress.within,
-        s1.rows,
-        s1.within,
-        c.requires.ready.few,
-        c.requires.ready.small,
-        c.requires.skips.within,
-      ),
-      omega (
-        arith,
-        st.within,
-        st.on,
-        st.grown,
-        st.rows,
-        c.loop-e.invariant.grown,
-        c.loop-e.invariant.progress.rows,
-        c.loop-e.invariant.progress.within,
-        s1.rows,
-        s1.within,
-        c.requires.ready.few,
-        c.requires.ready.small,
-        c.requires.skips.within,
-      ),
-      omega (
-        arith,
-        st.within,
-        st.on,
-        st.grown,
-        st.rows,
-        c.loop-e.invariant.grown,
-        c.loop-e.invariant.progress.rows,
-        c.loop-e.invariant.progress.within,
-        s1.rows,
-        s1.within,
-        c.requires.ready.few,
-        c.requires.ready.small,
-        c.requires.skips.within,
-      ),
-      omega arith,
-    )
-
-pub expression_term-overflow_add-d : goal.expression_term-overflow_add-d
-expression_term-overflow_add-d t c =
-    let s1 = stepped factor_solid c.in_ok-d.d c.requires.ready.within (c.in_ok-d.ensures.reading 0) refl in
-    let st = chain_step term_chain c.loop-e.invariant c.next_factor.ensures c.in-Ok.e c.in-Ok.is in
-    omega (
-      arith,
-      st.within,
-      st.on,
-      st.grown,
-      st.rows,
-      c.loop-e.invariant.grown,
-      c.loop-e.invariant.progress.rows,
-      c.loop-e.invariant.progress.within,
-      s1.rows,
-      s1.within,
-      c.requires.ready.few,
-      c.requires.ready.small,
-      c.requires.skips.within,
-    )
-
-pub expression_term-loop-e-smaller : goal.expression_term-loop-e-smaller
-expression_term-loop-e-smaller t c =
-    let s1 = stepped factor_solid c.in_ok-d.d c.requires.ready.within (c.in_ok-d.ensures.reading 0) refl in
-    let st = chain_step term_chain c.loop-e.invariant c.next_factor.ensures c.in-Ok.e c.in-Ok.is in
-    omega (arith, st.on, st.within)
-
-pub expression_term-loop-e-preserved : goal.expression_term-loop-e-preserved
-expression_term-loop-e-preserved t c =
-    let s1 = stepped factor_solid c.in_ok-d.d c.requires.ready.within (c.in_ok-d.ensures.reading 0) refl in
-    let st = chain_step term_chain c.loop-e.invariant c.next_factor.ensures c.in-Ok.e c.in-Ok.is in
-    chain_more term_chain c.loop-e.invariant c.next_factor.ensures term_pair c.in-Ok.e c.in-Ok.is _
-    (omega (arith, st.grown, c.loop-e.invariant.grown)) c.next_factor.auto.rows c.push_row.ensures c.push_row.auto.rows
-
-pub expression_term-returns-in-Err-Miss : goal.expression_term-returns-in-Err-Miss
-expression_term-returns-in-Err-Miss t c =
-    rw c.in-Err-Miss.met-is
-    (term_got c.requires.skips c.in_ok-d.d refl c.in_ok-d.ensures
-    (chain_end term_chain c.loop-e.invariant c.next_factor.ensures _ (c.in-Err-Miss.is ∙ ap Err c.in-Err-Miss.field-0-is)))
-
-pub expression_term-returns-in-Err-Deep : goal.expression_term-returns-in-Err-Deep
-expression_term-returns-in-Err-Deep t c =
-    term_got c.requires.skips c.in_ok-d.d refl c.in_ok-d.ensures
-    (chain_deep term_chain c.loop-e.invariant c.next_factor.ensures (c.in-Err-Deep.is ∙ ap Err c.in-Err-Deep.field-0-is))
 
 pub fn_call-returns-in_err-d : goal.fn_call-returns-in_err-d
 fn_call-returns-in_err-d t c =
@@ -596,12 +234,12 @@ fn_call-returns-in_err-e t c =
     rw (p.1, p.2) (call_bare c.args.c c.requires.within c.args.left (mname_is (c.in_ok-d.ensures.leafs multiline_trivia c.multiline_trivia-k.ensures)) c.in_ok-d.d
     refl c.in_err-e.ensures refl)
 
-pub fn_call-around-requires : goal.fn_call-around-requires
-fn_call-around-requires t c =
+pub fn_call-around-requires-clause-spans : goal.fn_call-around-requires-clause-spans
+fn_call-around-requires-clause-spans t c =
     let s1 = stepped name_solid c.in_ok-d.d c.requires.within
     ((mname_is (c.in_ok-d.ensures.leafs multiline_trivia c.multiline_trivia-k.ensures)).reading 0 0) refl in
     let s2 = stepped parens_solid c.in_ok-e.e s1.within (c.in_ok-e.ensures.reading 0) refl in
-    around_fits c.requires (ready_step (ready_step c.requires s1) s2) (omega (arith, s1.grown, s2.grown)) _ c.requires.within 0 (lit< tt)
+    around_fits c.requires (ready_step (ready_step c.requires s1) s2) (omega (arith, s1.grown, s2.grown)) _ c.requires.within
 
 pub fn_call-returns : goal.fn_call-returns
 fn_call-returns t c =
@@ -610,44 +248,6 @@ fn_call-returns t c =
     let s2 = stepped parens_solid c.in_ok-e.e s1.within (c.in_ok-e.ensures.reading 0) refl in
     call_got c.args.c c.requires.within c.args.left (mname_is (c.in_ok-d.ensures.leafs multiline_trivia c.multiline_trivia-k.ensures)) c.in_ok-d.d
     refl c.in_ok-e.ensures c.in_ok-e.e refl (omega (arith, s1.grown, s2.grown)) c.around.ensures
-
-pub next_factor-returns-in_err-d : goal.next_factor-returns-in_err-d
-next_factor-returns-in_err-d t c =
-    let p = err_from_is_err_and c.from_residual.result c.from_residual.ensures.1 in
-    rw (p.1, p.2) (then_out (reads_leaf c.args.left c.in_err-d.ensures) factorᵍ refl)
-
-pub next_factor-trivia-k-requires : goal.next_factor-trivia-k-requires
-next_factor-trivia-k-requires t c =
-    let st = stepped term_operator_solid c.in_ok-d.d c.requires.within (c.in_ok-d.ensures.reading 0 0) refl in
-    st.within
-
-pub next_factor-expression_factor-requires : goal.next_factor-expression_factor-requires
-next_factor-expression_factor-requires t c =
-    let st = stepped term_operator_solid c.in_ok-d.d c.requires.within (c.in_ok-d.ensures.reading 0 0) refl in
-    (omega arith, (ready_step c.requires st, c.trivia-k.ensures))
-
-pub next_factor-returns : goal.next_factor-returns
-next_factor-returns t c =
-    then_got (reads_leaf c.args.left c.in_ok-d.ensures) factorᵍ term_operator_solid.quieted c.in_ok-d.d refl c.expression_factor.ensures
-
-pub next_term-returns-in_err-d : goal.next_term-returns-in_err-d
-next_term-returns-in_err-d t c =
-    let p = err_from_is_err_and c.from_residual.result c.from_residual.ensures.1 in
-    rw (p.1, p.2) (then_out (reads_leaf c.args.left c.in_err-d.ensures) termᵍ refl)
-
-pub next_term-trivia-k-requires : goal.next_term-trivia-k-requires
-next_term-trivia-k-requires t c =
-    let st = stepped expression_operator_solid c.in_ok-d.d c.requires.within (c.in_ok-d.ensures.reading 0 0) refl in
-    st.within
-
-pub next_term-expression_term-requires : goal.next_term-expression_term-requires
-next_term-expression_term-requires t c =
-    let st = stepped expression_operator_solid c.in_ok-d.d c.requires.within (c.in_ok-d.ensures.reading 0 0) refl in
-    (omega arith, (ready_step c.requires st, c.trivia-k.ensures))
-
-pub next_term-returns : goal.next_term-returns
-next_term-returns t c =
-    then_got (reads_leaf c.args.left c.in_ok-d.ensures) termᵍ expression_operator_solid.quieted c.in_ok-d.d refl c.expression_term.ensures
 
 pub others-returns-in_default : goal.others-returns-in_default
 others-returns-in_default t c = else_first (reads_leaf c.args.left c.in_default.ensures) _ (λ m e. grind arith)
@@ -701,22 +301,12 @@ signed-returns-in_err-d t c =
     let p = err_from_is_err_and c.from_residual.result c.from_residual.ensures.1 in
     rw (p.1, p.2) (signed_out c.args.c c.requires.skips c.sign-p.ensures c.sign-q.ensures c.args.left c.in_err-d.ensures refl)
 
-pub signed-around-requires : goal.signed-around-requires
-signed-around-requires t c =
+pub signed-around-requires-clause-spans : goal.signed-around-requires-clause-spans
+signed-around-requires-clause-spans t c =
     let st = stepped inner_solid c.in_ok-d.d (c.sign-q.ensures.ready (c.sign-p.ensures.ready (ready_skip c.requires.ready c.requires.skips))).within
     (c.in_ok-d.ensures.reading 0) refl in
     around_fits c.requires.ready (ready_step (c.sign-q.ensures.ready (c.sign-p.ensures.ready (ready_skip c.requires.ready c.requires.skips))) st)
-    (omega (arith, st.grown, c.sign-p.ensures.grown, c.sign-q.ensures.grown)) _ c.requires.skips.within _
-    (omega (
-      arith,
-      c.sign-p.ensures.grown,
-      c.sign-p.ensures.one,
-      c.sign-q.ensures.grown,
-      c.sign-q.ensures.one,
-      c.requires.ready.small,
-      c.requires.ready.within,
-      c.requires.ready.few,
-    ))
+    (omega (arith, st.grown, c.sign-p.ensures.grown, c.sign-q.ensures.grown)) _ c.requires.skips.within
 
 pub signed-returns : goal.signed-returns
 signed-returns t c =
@@ -724,3 +314,98 @@ signed-returns t c =
     (c.in_ok-d.ensures.reading 0) refl in
     signed_got c.args.c c.requires.skips c.sign-p.ensures c.sign-q.ensures c.args.left c.in_ok-d.ensures c.in_ok-d.d refl
     (omega (arith, st.grown, c.sign-p.ensures.grown, c.sign-q.ensures.grown)) c.around.ensures
+
+pub chain-returns-in_err-d : goal.chain-returns-in_err-d
+chain-returns-in_err-d t c =
+    let p = err_from_is_err_and c.from_residual.result c.from_residual.ensures.1 in
+    rw (p.1, p.2) (level_out c.args.level c.in_err-d.ensures refl)
+
+pub chain-loop-e-init : goal.chain-loop-e-init
+chain-loop-e-init t c =
+    let s1 = stepped (part_solid c.args.level) c.in_ok-d.d c.requires.ready.within (c.in_ok-d.ensures.reading 0) refl in
+    chained_none _ _ _ _ _ _ _ _ _ _ s1.within s1.grown
+
+pub chain-next_part-requires : goal.chain-next_part-requires
+chain-next_part-requires t c =
+    let s1 = stepped (part_solid c.args.level) c.in_ok-d.d c.requires.ready.within (c.in_ok-d.ensures.reading 0) refl in
+    (omega arith, progress_ready c.loop-e.invariant.progress (ready_step c.requires.ready s1))
+
+pub chain-around-d-requires-clause-spans : goal.chain-around-d-requires-clause-spans
+chain-around-d-requires-clause-spans t c =
+    let s1 = stepped (part_solid c.args.level) c.in_ok-d.d c.requires.ready.within (c.in_ok-d.ensures.reading 0) refl in
+    let st = chain_step (next_solid c.args.level) c.loop-e.invariant c.next_part.ensures c.in-Ok.e c.in-Ok.is in
+    let before : Ready 0 c.args.s.now c.loop-e.d = progress_ready c.loop-e.invariant.progress (ready_step c.requires.ready s1) in
+    around_fits (ready_met (ready_skip c.requires.ready c.requires.skips) c.args.c.met) (ready_step before st)
+    (omega (arith, st.grown, c.loop-e.invariant.grown)) _
+    c.requires.skips.within
+
+pub chain-loop-e-smaller : goal.chain-loop-e-smaller
+chain-loop-e-smaller t c =
+    let st = chain_step (next_solid c.args.level) c.loop-e.invariant c.next_part.ensures c.in-Ok.e c.in-Ok.is in
+    rw c.around-d.ensures.is (omega (arith, st.on, st.within))
+
+pub chain-loop-e-preserved : goal.chain-loop-e-preserved
+chain-loop-e-preserved t c =
+    let f = c.around-d.ensures in
+    rw f.is
+    (chain_more (next_solid c.args.level) c.loop-e.invariant c.next_part.ensures (next_pays c.args.level) c.in-Ok.e c.in-Ok.is f.size f.counts
+    c.next_part.auto.rows f.table c.around-d.auto.rows)
+
+pub chain-returns-in-Err-Miss : goal.chain-returns-in-Err-Miss
+chain-returns-in-Err-Miss t c =
+    rw c.in-Err-Miss.met-is
+    (level_got c.args.level c.requires.skips c.in_ok-d.d refl c.in_ok-d.ensures
+    (chain_end (next_solid c.args.level) c.loop-e.invariant c.next_part.ensures _ (c.in-Err-Miss.is ∙ ap Err c.in-Err-Miss.field-0-is)))
+
+pub chain-returns-in-Err-Deep : goal.chain-returns-in-Err-Deep
+chain-returns-in-Err-Deep t c =
+    level_got c.args.level c.requires.skips c.in_ok-d.d refl c.in_ok-d.ensures
+    (chain_deep (next_solid c.args.level) c.loop-e.invariant c.next_part.ensures (c.in-Err-Deep.is ∙ ap Err c.in-Err-Deep.field-0-is))
+
+pub expression-returns : goal.expression-returns
+unfolding chain_of
+expression-returns t c = c.chain.ensures
+
+pub expression_term-returns : goal.expression_term-returns
+unfolding chain_of
+expression_term-returns t c = c.chain.ensures
+
+pub next_part-returns-in_err-d : goal.next_part-returns-in_err-d
+next_part-returns-in_err-d t c =
+    let p = err_from_is_err_and c.from_residual.result c.from_residual.ensures.1 in
+    rw (p.1, p.2) (then_out (reads_leaf c.args.left c.in_err-d.ensures) (part_of c.args.level) refl)
+
+pub next_part-trivia-k-requires : goal.next_part-trivia-k-requires
+next_part-trivia-k-requires t c =
+    (stepped (operator_solid c.args.level) c.in_ok-d.d c.requires.within (c.in_ok-d.ensures.reading 0 0) refl).within
+
+pub next_part-part-requires : goal.next_part-part-requires
+next_part-part-requires t c =
+    let st = stepped (operator_solid c.args.level) c.in_ok-d.d c.requires.within (c.in_ok-d.ensures.reading 0 0) refl in
+    (omega arith, (ready_step c.requires st, c.trivia-k.ensures))
+
+pub next_part-returns : goal.next_part-returns
+next_part-returns t c =
+    then_got (reads_leaf c.args.left c.in_ok-d.ensures) (part_of c.args.level) (operator_solid c.args.level).quieted c.in_ok-d.d refl c.part.ensures
+
+pub part-returns-in-Terms : goal.part-returns-in-Terms
+unfolding part_of
+part-returns-in-Terms t c = rw c.in-Terms.is c.expression_term.ensures
+
+pub part-returns-in-Factors : goal.part-returns-in-Factors
+unfolding part_of
+part-returns-in-Factors t c = rw c.in-Factors.is c.expression_factor.ensures
+
+pub part-expression_term-requires : goal.part-expression_term-requires
+part-expression_term-requires t c =
+    let e : part_rank c.args.level ≡ 9 = ap part_rank c.in-Terms.is in (omega (arith, e), (c.requires.ready, c.requires.skips))
+
+pub part-expression_factor-requires : goal.part-expression_factor-requires
+part-expression_factor-requires t c =
+    let e : part_rank c.args.level ≡ 5 = ap part_rank c.in-Factors.is in (omega (arith, e), (c.requires.ready, c.requires.skips))
+
+pub expression-chain-requires : goal.expression-chain-requires
+expression-chain-requires t c = (omega arith, (c.requires.ready, c.requires.skips))
+
+pub expression_term-chain-requires : goal.expression_term-chain-requires
+expression_term-chain-requires t c = (omega arith, (c.requires.ready, c.requires.skips))

@@ -1,27 +1,29 @@
 use Prim.Native.Nat.{◌+◌, ◌-◌, ◌*◌}
 use lib.ListN.{length}
-use Rattle.reading.specs.Rules.{expression_arg, term_operator, expression_operator, expression_factor as factorᵍ, expression_term as termᵍ}
+use Rattle.reading.specs.Rules.{expression_arg}
 use Rattle.cursor.proofs.Loops.{Chained, Listed}
 use Rattle.expression.specs.Mark.{mark as markᵍ}
+use Rattle.expression.specs.Level.{operator_of, part_of}
+use Rattle.expression.proofs.Levels.{part_rank}
 use Rattle.expression.proofs.+expression.Given as goal
 
 abbrev pub decreases-argument : goal.decreases-argument
-decreases-argument l = l.left * 16 + 9
+decreases-argument l = l.left * 16 + 13
 
 abbrev pub decreases-arguments : goal.decreases-arguments
-decreases-arguments l = l.left * 16 + 10
+decreases-arguments l = l.left * 16 + 14
 
 abbrev pub decreases-call_args : goal.decreases-call_args
-decreases-call_args l = l.left * 16 + 11
+decreases-call_args l = l.left * 16 + 15
 
 abbrev pub decreases-call_parens : goal.decreases-call_parens
 decreases-call_parens l = l.left * 16 + 0
 
 abbrev pub decreases-closed : goal.decreases-closed
-decreases-closed l = l.left * 16 + 9
+decreases-closed l = l.left * 16 + 13
 
 abbrev pub decreases-expression : goal.decreases-expression
-decreases-expression l = l.left * 16 + 8
+decreases-expression l = l.left * 16 + 12
 
 abbrev pub decreases-expression_factor : goal.decreases-expression_factor
 decreases-expression_factor l = l.left * 16 + 4
@@ -33,16 +35,10 @@ abbrev pub decreases-expression_parens : goal.decreases-expression_parens
 decreases-expression_parens l = l.left * 16 + 0
 
 abbrev pub decreases-expression_term : goal.decreases-expression_term
-decreases-expression_term l = l.left * 16 + 6
+decreases-expression_term l = l.left * 16 + 8
 
 abbrev pub decreases-fn_call : goal.decreases-fn_call
 decreases-fn_call l = l.left * 16 + 1
-
-abbrev pub decreases-next_factor : goal.decreases-next_factor
-decreases-next_factor l = l.left * 16 + 5
-
-abbrev pub decreases-next_term : goal.decreases-next_term
-decreases-next_term l = l.left * 16 + 7
 
 abbrev pub decreases-others : goal.decreases-others
 decreases-others l = l.left * 16 + 1
@@ -56,16 +52,19 @@ invariant-arguments-loop-last l = Listed expression_arg (markᵍ 44) l.s l.left 
 abbrev pub decreases-arguments-loop-last : goal.decreases-arguments-loop-last
 decreases-arguments-loop-last l = length l.s - l.next.at.0
 
-abbrev pub invariant-expression-loop-e : goal.invariant-expression-loop-e
-invariant-expression-loop-e l =
-    Chained expression_operator termᵍ l.s l.c.count.0 l.k.at.0 l.left l.initial.d.at.0 l.initial.d.count.0 l.initial.d.met l.initial.rows l.d.at.0 l.d.count.0 l.d.met l.rows
+abbrev pub decreases-part : goal.decreases-part
+decreases-part l = l.left * 16 + part_rank l.level
 
-abbrev pub decreases-expression-loop-e : goal.decreases-expression-loop-e
-decreases-expression-loop-e l = length l.s - l.d.at.0
+abbrev pub decreases-next_part : goal.decreases-next_part
+decreases-next_part l = l.left * 16 + part_rank l.level + 1
 
-abbrev pub invariant-expression_term-loop-e : goal.invariant-expression_term-loop-e
-invariant-expression_term-loop-e l =
-    Chained term_operator factorᵍ l.s l.c.count.0 l.k.at.0 l.left l.initial.d.at.0 l.initial.d.count.0 l.initial.d.met l.initial.rows l.d.at.0 l.d.count.0 l.d.met l.rows
+abbrev pub decreases-chain : goal.decreases-chain
+decreases-chain l = l.left * 16 + part_rank l.level + 2
 
-abbrev pub decreases-expression_term-loop-e : goal.decreases-expression_term-loop-e
-decreases-expression_term-loop-e l = length l.s - l.d.at.0
+abbrev pub invariant-chain-loop-e : goal.invariant-chain-loop-e
+invariant-chain-loop-e l =
+    Chained (operator_of l.level) (part_of l.level) l.s l.start.count.0 l.k.at.0 l.left l.initial.d.at.0 l.initial.d.count.0 l.initial.d.met l.initial.rows
+    l.d.at.0 l.d.count.0 l.d.met l.rows
+
+abbrev pub decreases-chain-loop-e : goal.decreases-chain-loop-e
+decreases-chain-loop-e l = length l.s - l.d.at.0

@@ -14,10 +14,10 @@ returns-in_err-d c =
     let p = err_from_is_err_and c.from_residual.result c.from_residual.ensures.1 in
     rw (p.1, p.2) (pc_out c.args.c c.requires.ready.within (c.in_err-d.ensures.leafs trivia c.requires.skips) refl)
 
-pub around-requires : goal.around-requires
-around-requires c =
+pub around-requires-clause-spans : goal.around-requires-clause-spans
+around-requires-clause-spans c =
     let st = stepped (mark_solid 42) c.in_ok-d.d c.requires.ready.within ((c.in_ok-d.ensures.leafs trivia c.requires.skips).reading 0 0) refl in
-    around_fits c.requires.ready (ready_step c.requires.ready st) (omega (arith, st.grown)) _ c.requires.ready.within 0 (lit< tt)
+    around_fits c.requires.ready (ready_step c.requires.ready st) (omega (arith, st.grown)) _ c.requires.ready.within
 
 pub returns : goal.returns
 returns c =
