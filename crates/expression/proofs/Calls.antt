@@ -16,7 +16,7 @@ use Rattle.cursor.specs.declared.Skip.{Skip}
 use Rattle.cursor.specs.Read.{Read}
 use Rattle.cursor.proofs.Agree.{got_miss, miss_deep}
 use Rattle.cursor.proofs.Laws.{rule_is, reading_is, reading_to, reads_leaf, opt_miss, opt_first, argument_out, argument_got}
-use Rattle.expression.specs.Mark.{mark}
+use Rattle.lexis.specs.Spaced.{spaced}
 use Rattle.lexis.specs.Around.{Finished}
 use Rattle.expression.proofs.Facts.{name_solid, opt_list_quiet, bracket_quiet, call_quiet}
 use Rattle.expression.proofs.Steps.{then_out, then_got, whole_out, whole_got, inside_out, inside_none, inside_on}
@@ -33,13 +33,13 @@ rule_reads {s} {c} h k a = record { reading = λ l. reading_is (rule_is expr tt 
 module _ {s : List ℕ} {c : Cursor} (h : 1 ≤ c.at.0) (k : c.at.0 ≤ length s) {left : ℕ} {t t₁ : List ℕ} {r₁ : Read} (a : Reads expression s c left t t₁ r₁) where
   pub closed_out : IsErr r₁ → Reads closed_expression s c left t t₁ r₁
   unfolding closed_expression
-  closed_out g = then_out (rule_reads h k a) (mark 41) g
+  closed_out g = then_out (rule_reads h k a) (spaced 41) g
 
-  pub closed_got : (d : Cursor) → r₁ ≡ Ok d → {t₂ : List ℕ} {r₂ : Read} → Leafs (mark 41) s d t₁ t₂ r₂ → Reads closed_expression s c left t t₂ r₂
+  pub closed_got : (d : Cursor) → r₁ ≡ Ok d → {t₂ : List ℕ} {r₂ : Read} → Leafs (spaced 41) s d t₁ t₂ r₂ → Reads closed_expression s c left t t₂ r₂
   unfolding closed_expression
-  closed_got d e b = then_got (rule_reads h k a) (mark 41) tt d e (reads_leaf left b)
+  closed_got d e b = then_got (rule_reads h k a) (spaced 41) tt d e (reads_leaf left b)
 
-module _ {s : List ℕ} (c : Cursor) (h : c.at.0 ≤ length s) (left : ℕ) {t t₁ : List ℕ} {r₁ : Read} (a : Leafs (mark 40) s c t t₁ r₁) where
+module _ {s : List ℕ} (c : Cursor) (h : c.at.0 ≤ length s) (left : ℕ) {t t₁ : List ℕ} {r₁ : Read} (a : Leafs (spaced 40) s c t t₁ r₁) where
   pub parens_out : IsErr r₁ → Reads expression_parens s c left t t₁ r₁
   unfolding expression_parens
   parens_out g = whole_out parensᵏ 0 c h (inside_out closed_expression left a g) g
@@ -78,27 +78,27 @@ module _ {s : List ℕ} (c : Cursor) (h : 1 ≤ c.at.0) {k : Skip} (skips : Skip
 
 -- arguments, or none, and `)`
 module _ {s : List ℕ} {c : Cursor} {left : ℕ} {t t₁ : List ℕ} {r₁ : Read} (a : Reads (arg_list expression_arg) s c left t t₁ r₁) where
-  pub args_got : (d : Cursor) → r₁ ≡ Ok d → {t₂ : List ℕ} {r₂ : Read} → Leafs (mark 41) s d t₁ t₂ r₂ → Reads call_args s c left t t₂ r₂
+  pub args_got : (d : Cursor) → r₁ ≡ Ok d → {t₂ : List ℕ} {r₂ : Read} → Leafs (spaced 41) s d t₁ t₂ r₂ → Reads call_args s c left t t₂ r₂
   unfolding call_args
   args_got d e b =
-      then_got (record { reading = λ l. opt_first (a.reading l) λ x q. got_miss d x (sym e ∙ q) }) (mark 41) opt_list_quiet d e (reads_leaf left b)
+      then_got (record { reading = λ l. opt_first (a.reading l) λ x q. got_miss d x (sym e ∙ q) }) (spaced 41) opt_list_quiet d e (reads_leaf left b)
 
-  pub args_miss : (x : Bool) → r₁ ≡ Err (Miss x) → {t₂ : List ℕ} {r₂ : Read} → Leafs (mark 41) s (cursor c.at.0 c.count.0 x) t₁ t₂ r₂
+  pub args_miss : (x : Bool) → r₁ ≡ Err (Miss x) → {t₂ : List ℕ} {r₂ : Read} → Leafs (spaced 41) s (cursor c.at.0 c.count.0 x) t₁ t₂ r₂
       → Reads call_args s c left t t₂ r₂
   unfolding call_args
   args_miss x e b =
-      then_got {r₁ = Ok (cursor c.at.0 c.count.0 x)} (record { reading = λ l. opt_miss (a.reading l) x e }) (mark 41) opt_list_quiet _ refl (reads_leaf left b)
+      then_got {r₁ = Ok (cursor c.at.0 c.count.0 x)} (record { reading = λ l. opt_miss (a.reading l) x e }) (spaced 41) opt_list_quiet _ refl (reads_leaf left b)
 
   pub args_deep : r₁ ≡ Err Deep → Reads call_args s c left t t₁ (Err Deep)
   unfolding call_args
   args_deep e =
-      subst (Reads (opt (arg_list expression_arg) ▸ mark 41) s c left t t₁) e
-      (then_out (record { reading = λ l. opt_first (a.reading l) λ x q. miss_deep x (sym q ∙ e) }) (mark 41) (ap is_err e))
+      subst (Reads (opt (arg_list expression_arg) ▸ spaced 41) s c left t t₁) e
+      (then_out (record { reading = λ l. opt_first (a.reading l) λ x q. miss_deep x (sym q ∙ e) }) (spaced 41) (ap is_err e))
 
 -- Calls ------------------------------------------------------------------------
 
 -- `(` and arguments
-module _ {s : List ℕ} {c : Cursor} (left : ℕ) {t t₁ : List ℕ} {r₁ : Read} (a : Leafs (mark 40) s c t t₁ r₁) where
+module _ {s : List ℕ} {c : Cursor} (left : ℕ) {t t₁ : List ℕ} {r₁ : Read} (a : Leafs (spaced 40) s c t t₁ r₁) where
   pub open_out : IsErr r₁ → Reads call_parens s c left t t₁ r₁
   unfolding call_parens
   open_out g = inside_out call_args left a g

@@ -18,7 +18,7 @@ use Rattle.cursor.specs.declared.Skip.{Skip}
 use Rattle.cursor.specs.Read.{Read}
 use Rattle.cursor.proofs.Agree.{found, found_here, lost, got_miss, miss_deep, agrees_is, agrees_err}
 use Rattle.cursor.proofs.Laws.{lies, stepped, reading_is, seq_got, opt_miss, opt_first}
-use Rattle.expression.specs.Mark.{mark}
+use Rattle.lexis.specs.Spaced.{spaced}
 use Rattle.lexis.specs.Around.{Finished}
 use Rattle.expression.specs.Sign.{signs, signed_factor, Missed, Maybe}
 use Rattle.expression.proofs.Facts.{mark_solid, inner_solid, opt_mark_quiet, signs_quiet}
@@ -152,13 +152,13 @@ module _ {s : List ℕ} {c : Cursor} {left : ℕ} {t t₁ : List ℕ} {r₁ : Re
 -- Signs ----------------------------------------------------------------------
 
 -- the character, or nothing
-module _ {b : ℕ} {s : List ℕ} {c : Cursor} {t t' : List ℕ} {r : Read} (a : Leafs (mark b) s c t t' r) where
+module _ {b : ℕ} {s : List ℕ} {c : Cursor} {t t' : List ℕ} {r : Read} (a : Leafs (spaced b) s c t t' r) where
   pub maybe_got : c.at.0 ≤ length s → (d : Cursor) → r ≡ Ok d → Maybe b s c t t' d
   maybe_got h d e =
       let st = stepped (mark_solid b) d h (a.reading 0 0) e in
-      let f = found 0 c.met c.count.0 (scan (full s) (mark b) 0 (here s c.at.0)) d (sym e ∙ (a.reading 0 0).agrees.answer) in
+      let f = found 0 c.met c.count.0 (scan (full s) (spaced b) 0 (here s c.at.0)) d (sym e ∙ (a.reading 0 0).agrees.answer) in
       record {
-        leafs = subst (Leafs (opt (mark b)) s c t t') e (record { reading = λ l lim. opt_first (a.reading l lim) λ x q. got_miss d x (sym e ∙ q) });
+        leafs = subst (Leafs (opt (spaced b)) s c t t') e (record { reading = λ l lim. opt_first (a.reading l lim) λ x q. got_miss d x (sym e ∙ q) });
         grown = omega (arith, st.grown);
         one = omega (
           arith,
@@ -187,12 +187,12 @@ module _ {b : ℕ} {s : List ℕ} {c : Cursor} {t t' : List ℕ} {r : Read} (a :
 
 -- what the signs add to the flags is how many rows they have
 signs_flags : (s : List ℕ) (l i m n : ℕ) (q r : Input) (a b v w : Rows) (x y z u : Bool) (e f g h : ℕ)
-    → scan (full s) (opt (mark 33)) l (here s i) ≡ fits a (here s m) x e → scan (full s) (opt (mark 45)) l (here s m) ≡ fits b (here s n) y f
+    → scan (full s) (opt (spaced 33)) l (here s i) ≡ fits a (here s m) x e → scan (full s) (opt (spaced 45)) l (here s m) ≡ fits b (here s n) y f
     → scan (full s) expression_factor_inner l (here s n) ≡ fits v q z g → scan (full s) signs l (here s i) ≡ fits w r u h
     → length a + 2 * length b ≡ flags w
 unfolding signs
 signs_flags s l i m n q r a b v w x y z u e f g h first second third whole =
-    let o = ap (λ o. thenˢ o λ a q. withˢ (a ++◌) (thenˢ (scan (full s) (opt (mark 45)) l q) λ a q. withˢ (a ++◌) (scan (full s) expression_factor_inner l q))) first
+    let o = ap (λ o. thenˢ o λ a q. withˢ (a ++◌) (thenˢ (scan (full s) (opt (spaced 45)) l q) λ a q. withˢ (a ++◌) (scan (full s) expression_factor_inner l q))) first
     ∙ ap (λ o. more x e (withˢ (a ++◌) (thenˢ o λ a q. withˢ (a ++◌) (scan (full s) expression_factor_inner l q)))) second
     ∙ ap (λ o. more x e (withˢ (a ++◌) (more y f (withˢ (b ++◌) o)))) third in
     flags_signed a b v (subst (Yields λ v q. Sign 33 v) first (sign_row (full s) 33 l (here s i))).holds
@@ -210,7 +210,7 @@ module _ {s : List ℕ} (c : Cursor) {k : Skip} (skips : Skips trivia s c.at.0 c
       → (l : ℕ) → Reading signs s l (l + left) k.at.0 k.met c.count.0 t t' r
   unfolding signs
   signs_on a l =
-      seq_got (x.leafs.reading l (l + left)) (opt (mark 45) ▸ expression_factor_inner) (opt_mark_quiet 33) p refl
+      seq_got (x.leafs.reading l (l + left)) (opt (spaced 45) ▸ expression_factor_inner) (opt_mark_quiet 33) p refl
       (seq_got (y.leafs.reading l (l + left)) expression_factor_inner (opt_mark_quiet 45) q refl (a l))
 
   -- no sign: the same would not fit again
@@ -225,8 +225,8 @@ module _ {s : List ℕ} (c : Cursor) {k : Skip} (skips : Skips trivia s c.at.0 c
       missed l =
           let o = scan (full s) expression_factor_inner l (here s k.at.0) in
           let i = lost (l + left) k.met 0 o k.met (h.again l 0 t₂).agrees.answer in
-          let f = found (l + left) k.met c.count.0 (scan (full s) (opt (mark 33)) l (here s k.at.0)) p (x.leafs.reading l (l + left)).agrees.answer in
-          let g = found (l + left) p.met p.count.0 (scan (full s) (opt (mark 45)) l (here s p.at.0)) q (y.leafs.reading l (l + left)).agrees.answer in
+          let f = found (l + left) k.met c.count.0 (scan (full s) (opt (spaced 33)) l (here s k.at.0)) p (x.leafs.reading l (l + left)).agrees.answer in
+          let g = found (l + left) p.met p.count.0 (scan (full s) (opt (spaced 45)) l (here s p.at.0)) q (y.leafs.reading l (l + left)).agrees.answer in
           subst (λ (n : ℕ). Reading expression_factor_inner s l (l + left) n q.met q.count.0 t₂ t₂ (Err (Miss q.met))) (sym at)
           (record {
             agrees = agrees_is i.is (agrees_err (l + left) q.met q.count.0 [] t₂ i.b i.k q.met i.low
@@ -247,12 +247,12 @@ module _ {s : List ℕ} (c : Cursor) {k : Skip} (skips : Skips trivia s c.at.0 c
         detail : (l : ℕ) (v : Rows) (u : Bool) (j : ℕ) → scan (full s) signs l (here s k.at.0) ≡ fits v (here s d.at.0) u j
             → p.count.0 - c.count.0 + 2 * (q.count.0 - p.count.0) ≡ flags v
         detail l v u j w =
-            let o = scan (full s) (opt (mark 33)) l (here s k.at.0) in
-            let o' = scan (full s) (opt (mark 45)) l (here s p.at.0) in
+            let o = scan (full s) (opt (spaced 33)) l (here s k.at.0) in
+            let o' = scan (full s) (opt (spaced 45)) l (here s p.at.0) in
             let f = found (l + left) k.met c.count.0 o p (x.leafs.reading l (l + left)).agrees.answer in
             let g = found (l + left) p.met p.count.0 o' q (y.leafs.reading l (l + left)).agrees.answer in
             let i = found (l + left) q.met q.count.0 (scan (full s) expression_factor_inner l (here s q.at.0)) d (sym e ∙ (a.reading l).agrees.answer) in
             let n : p.count.0 - c.count.0 + 2 * (q.count.0 - p.count.0) ≡ length f.v + 2 * length g.v = omega (arith, f.count, g.count) in
             n ∙ signs_flags s l k.at.0 p.at.0 q.at.0 i.q (here s d.at.0) f.v g.v i.v v f.b g.b i.b u f.k g.k i.k j
-            (found_here s (lies s (opt (mark 33)) (opt_mark_quiet 33) l k.at.0) f) (found_here s (lies s (opt (mark 45)) (opt_mark_quiet 45) l p.at.0) g)
+            (found_here s (lies s (opt (spaced 33)) (opt_mark_quiet 33) l k.at.0) f) (found_here s (lies s (opt (spaced 45)) (opt_mark_quiet 45) l p.at.0) g)
             i.is w

@@ -6,18 +6,18 @@ use Rattle.reading.specs.Rules.{all_rules, opt, trivia, mname, expression_arg, a
 use Rattle.reading.proofs.Tests.{quiet}
 use Rattle.reading.proofs.Cost.{cost}
 use Rattle.cursor.proofs.Laws.{Solid}
-use Rattle.expression.specs.Mark.{mark}
+use Rattle.lexis.specs.Spaced.{spaced}
 use Rattle.expression.specs.Sign.{signs}
 
 pub trivia_quiet : T (quiet trivia)
 unfolding all_rules
 trivia_quiet = tt
 
-pub mark_solid : (b : ℕ) → Solid (mark b)
+pub mark_solid : (b : ℕ) → Solid (spaced b)
 unfolding all_rules
 mark_solid b = record { quieted = tt; slimmed = tt; rooting = tt; paying = tt }
 
-pub opt_mark_quiet : (b : ℕ) → T (quiet (opt (mark b)))
+pub opt_mark_quiet : (b : ℕ) → T (quiet (opt (spaced b)))
 unfolding all_rules
 opt_mark_quiet b = tt
 
@@ -73,7 +73,7 @@ pub list_solid : Solid (arg_list expression_arg)
 unfolding all_rules
 list_solid = record { quieted = tt; slimmed = tt; rooting = tt; paying = tt }
 
-pub comma_solid : Solid (expression_arg ▸ mark 44)
+pub comma_solid : Solid (expression_arg ▸ spaced 44)
 unfolding all_rules
 comma_solid = record { quieted = tt; slimmed = tt; rooting = tt; paying = tt }
 

@@ -14,7 +14,7 @@ use Rattle.reading.specs.Rules.{all_rules, opt, flags, minus, trivia, expression
 use Rattle.reading.specs.Summary.{Summary, fits, fails, elseˢ, turnedˢ, last_roundˢ, gateˢ, next_roundˢ, thenˢ, Scan, roundsˢ, takeˢ, char_atˢ, pickedˢ, pick_wordˢ, scan}
 use Rattle.reading.proofs.Bool.{and_left, and_right}
 use Rattle.reading.proofs.Summaries.{Yields, anything, more_yields, then_yields, with_yields}
-use Rattle.expression.specs.Mark.{mark}
+use Rattle.lexis.specs.Spaced.{spaced}
 
 -- Rows -----------------------------------------------------------------------
 
@@ -220,9 +220,9 @@ module _ (τ : Rule → Scan Rows) where
   inner_head l p = head expression_factor_inner inner_headed l p
 
   -- a sign, or nothing
-  pub sign_row : (c l : ℕ) (p : Input) → Yields (λ v q. Sign c v) (scan τ (opt (mark c)) l p)
+  pub sign_row : (c l : ℕ) (p : Input) → Yields (λ v q. Sign c v) (scan τ (opt (spaced c)) l p)
   sign_row c l p =
-      else_yields (scan τ (mark c) l p) (λ t. fits [] p false 0) (then_yields (anything (scan τ trivia l p)) λ _ q _. go q (one_of (is c) q.left))
+      else_yields (scan τ (spaced c) l p) (λ t. fits [] p false 0) (then_yields (anything (scan τ trivia l p)) λ _ q _. go q (one_of (is c) q.left))
       (record { holds = tt })
     where
       go : (q : Input) (o : Option ℕ) → Yields (λ v q. Sign c v) (thenˢ (takeˢ o q) λ v r. fits (under charᵏ c p.at q.at r.at v) r false 0)

@@ -18,7 +18,7 @@ use Rattle.cursor.specs.declared.Cursor.{Cursor}
 use Rattle.cursor.specs.Read.{Read}
 use Rattle.cursor.proofs.Agree.{Lies}
 use Rattle.cursor.proofs.Laws.{lies, rule_is, reading_is}
-use Rattle.expression.specs.Mark.{mark}
+use Rattle.lexis.specs.Spaced.{spaced}
 use Rattle.expression.proofs.Facts.{trivia_quiet, comma_solid}
 
 -- a place of the text, no earlier than i
@@ -57,24 +57,24 @@ module _ (s : List ℕ) (l : ℕ) where
       (subst (λ q. scan (full s) (rule expr) l q ≡ scan (full s) expression l q) (sym e.is) (rule_is expr tt s l q.at (omega (arith, e.on)) e.within))
 
   pair_same : (i : ℕ) → 1 ≤ i → i ≤ length s
-      → scan (full s) (expression_arg ▸ mark 44) l (here s i) ≡ scan (full s) (argument trivia expression ▸ mark 44) l (here s i)
-  pair_same i h k = ap (λ o. thenˢ o λ a q. withˢ (a ++◌) (scan (full s) (mark 44) l q)) (one_same i h k)
+      → scan (full s) (expression_arg ▸ spaced 44) l (here s i) ≡ scan (full s) (argument trivia expression ▸ spaced 44) l (here s i)
+  pair_same i h k = ap (λ o. thenˢ o λ a q. withˢ (a ++◌) (scan (full s) (spaced 44) l q)) (one_same i h k)
 
   rounds_same : (f : List ℕ) (i : ℕ) → 1 ≤ i → i ≤ length s
-      → roundsˢ (scan (full s) (expression_arg ▸ mark 44)) f l (here s i) ≡ roundsˢ (scan (full s) (argument trivia expression ▸ mark 44)) f l (here s i)
+      → roundsˢ (scan (full s) (expression_arg ▸ spaced 44)) f l (here s i) ≡ roundsˢ (scan (full s) (argument trivia expression ▸ spaced 44)) f l (here s i)
   rounds_same [] i h k = ap (last_roundˢ (here s i)) (pair_same i h k)
   rounds_same (x ∷ f) i h k =
-      next_same (here s i) (scan (full s) (expression_arg ▸ mark 44) l (here s i)) (roundsˢ (scan (full s) (expression_arg ▸ mark 44)) f l)
-      (roundsˢ (scan (full s) (argument trivia expression ▸ mark 44)) f l) (later s (expression_arg ▸ mark 44) comma_solid.quieted l i k)
-      (λ q e. subst (λ q. roundsˢ (scan (full s) (expression_arg ▸ mark 44)) f l q ≡ roundsˢ (scan (full s) (argument trivia expression ▸ mark 44)) f l q) (sym e.is)
+      next_same (here s i) (scan (full s) (expression_arg ▸ spaced 44) l (here s i)) (roundsˢ (scan (full s) (expression_arg ▸ spaced 44)) f l)
+      (roundsˢ (scan (full s) (argument trivia expression ▸ spaced 44)) f l) (later s (expression_arg ▸ spaced 44) comma_solid.quieted l i k)
+      (λ q e. subst (λ q. roundsˢ (scan (full s) (expression_arg ▸ spaced 44)) f l q ≡ roundsˢ (scan (full s) (argument trivia expression ▸ spaced 44)) f l q) (sym e.is)
       (rounds_same f q.at (omega (arith, e.on)) e.within))
-      ∙ ap (λ o. next_roundˢ (here s i) o (roundsˢ (scan (full s) (argument trivia expression ▸ mark 44)) f l)) (pair_same i h k)
+      ∙ ap (λ o. next_roundˢ (here s i) o (roundsˢ (scan (full s) (argument trivia expression ▸ spaced 44)) f l)) (pair_same i h k)
 
   list_same : (i : ℕ) → 1 ≤ i → i ≤ length s → scan (full s) (arg_list expression_arg) l (here s i) ≡ scan (full s) expression_arg_list l (here s i)
   unfolding expression_arg_list
   list_same i h k =
-      then_same (scan (full s) (many0 (expression_arg ▸ mark 44)) l (here s i)) (λ a q. withˢ (a ++◌) (scan (full s) expression_arg l q))
-      (λ a q. withˢ (a ++◌) (scan (full s) (argument trivia expression) l q)) (later s (many0 (expression_arg ▸ mark 44)) comma_solid.quieted l i k)
+      then_same (scan (full s) (many0 (expression_arg ▸ spaced 44)) l (here s i)) (λ a q. withˢ (a ++◌) (scan (full s) expression_arg l q))
+      (λ a q. withˢ (a ++◌) (scan (full s) (argument trivia expression) l q)) (later s (many0 (expression_arg ▸ spaced 44)) comma_solid.quieted l i k)
       (λ a q e. ap (withˢ (a ++◌))
       (subst (λ q. scan (full s) expression_arg l q ≡ scan (full s) (argument trivia expression) l q) (sym e.is) (one_same q.at (omega (arith, e.on)) e.within)))
       ∙ ap (λ o. thenˢ (withˢ joined o) λ a q. withˢ (a ++◌) (scan (full s) (argument trivia expression) l q)) (rounds_same (drop i s) i h k)

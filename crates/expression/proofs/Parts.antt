@@ -14,7 +14,7 @@ use Rattle.cursor.specs.declared.Cursor.{Cursor}
 use Rattle.cursor.specs.Read.{Read}
 use Rattle.cursor.proofs.Agree.{got_miss}
 use Rattle.cursor.proofs.Laws.{Solid, seq_got, opt_miss, opt_first}
-use Rattle.expression.specs.Mark.{mark}
+use Rattle.lexis.specs.Spaced.{spaced}
 use Rattle.lexis.specs.Around.{Finished}
 use Rattle.expression.specs.Path.{modified_path}
 use Rattle.expression.proofs.Facts.{mark_solid}
@@ -61,7 +61,7 @@ module _ {s : List ℕ} (c : Cursor) (h : c.at.0 ≤ length s) {t t₁ : List �
   unfolding identifier_value modified_path
   value_out a g = leaf_out identifierᵏ 0 c h a g
 
-  pub pc_out : Leafs (mark 42) s c t t₁ r₁ → IsErr r₁ → Leafs current_pc s c t t₁ r₁
+  pub pc_out : Leafs (spaced 42) s c t t₁ r₁ → IsErr r₁ → Leafs current_pc s c t t₁ r₁
   unfolding current_pc
   pc_out a g = leaf_out current_pcᵏ 0 c h a g
 
@@ -74,7 +74,7 @@ module _ {s : List ℕ} (c : Cursor) (h : c.at.0 ≤ length s) {t t₁ : List �
     unfolding identifier_value modified_path
     value_got a b = leaf_got identifierᵏ 0 c h a path_solid.quieted d e g b
 
-    pub pc_got : Leafs (mark 42) s c t t₁ r₁ → Finished current_pcᵏ 0 c c.at.0 d t₁ t' z → Leafs current_pc s c t t' (Ok z)
+    pub pc_got : Leafs (spaced 42) s c t t₁ r₁ → Finished current_pcᵏ 0 c c.at.0 d t₁ t' z → Leafs current_pc s c t t' (Ok z)
     unfolding current_pc
     pc_got a b = leaf_got current_pcᵏ 0 c h a (mark_solid 42).quieted d e g b
 

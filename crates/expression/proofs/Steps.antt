@@ -19,7 +19,7 @@ use Rattle.cursor.specs.Read.{Read}
 use Rattle.cursor.proofs.Agree.{lost}
 use Rattle.cursor.proofs.Laws.{Stepped, reading_to, skips_empty, seq_out, seq_got, or_miss, or_first, node_out, node_got}
 use Rattle.cursor.proofs.Laws.{bracket_out, bracket_none, bracket_in}
-use Rattle.expression.specs.Mark.{mark}
+use Rattle.lexis.specs.Spaced.{spaced}
 use Rattle.lexis.specs.Around.{Spans, Finished}
 use Rattle.expression.proofs.Facts.{trivia_quiet}
 use Rattle.cursor.specs.declared.Stop.TheVariants.{Miss, Deep}
@@ -110,7 +110,7 @@ module _ (k e : ℕ) {s : List ℕ} (c : Cursor) (h : c.at.0 ≤ length s) {m : 
 -- Brackets -------------------------------------------------------------------
 
 -- the opening character, and what is inside, one level deeper
-module _ (m : Parser) (left : ℕ) {b : ℕ} {s : List ℕ} {c : Cursor} {t t₁ : List ℕ} {r₁ : Read} (a : Leafs (mark b) s c t t₁ r₁) where
+module _ (m : Parser) (left : ℕ) {b : ℕ} {s : List ℕ} {c : Cursor} {t t₁ : List ℕ} {r₁ : Read} (a : Leafs (spaced b) s c t t₁ r₁) where
   pub inside_out : IsErr r₁ → Reads (bracket trivia b m) s c left t t₁ r₁
   inside_out h = record { reading = λ l. bracket_out m left (a.reading l (l + left)) h }
 

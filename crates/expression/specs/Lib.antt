@@ -1,4 +1,3 @@
-pub mod Mark
 pub mod Sign
 pub mod Path
 pub mod Level

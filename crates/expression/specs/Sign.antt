@@ -6,12 +6,12 @@ use Rattle.reading.specs.Rules.{opt, flags, trivia, expression_factor_inner}
 use Rattle.cursor.specs.Agree.{Reading, Leafs, Ready}
 use Rattle.cursor.specs.declared.Cursor.{Cursor}
 use Rattle.cursor.specs.declared.Skip.{Skip}
-use Rattle.expression.specs.Mark.{mark}
+use Rattle.lexis.specs.Spaced.{spaced}
 use Rattle.cursor.specs.declared.Stop.TheVariants.{Miss}
 
 -- a factor by its second alternative
 unfoldable pub signs : Parser
-signs = opt (mark 33) ▸ opt (mark 45) ▸ expression_factor_inner
+signs = opt (spaced 33) ▸ opt (spaced 45) ▸ expression_factor_inner
 
 unfoldable pub signed_factor : Parser
 signed_factor = node factorᵏ flags trivia signs
@@ -22,7 +22,7 @@ pub record Missed (s : List ℕ) (k : Skip) (left : ℕ) : Type 0 where
 
 -- a sign and its row, or nothing
 pub record Maybe (b : ℕ) (s : List ℕ) (c : Cursor) (t t' : List ℕ) (d : Cursor) : Type 0 where
-  pub leafs : Leafs (opt (mark b)) s c t t' (Ok d)
+  pub leafs : Leafs (opt (spaced b)) s c t t' (Ok d)
   pub grown : c.count.0 ≤ d.count.0
   pub one : d.count.0 ≤ c.count.0 + 1
   pub none : d.count.0 ≡ c.count.0 → d.at.0 ≡ c.at.0

@@ -6,7 +6,6 @@ ghost use Rattle.reading.specs.Grammar.{◌▸◌, ◌or◌};
 ghost use Rattle.reading.specs.Rules.{trivia, arg_list, expression_arg, call_args, call_parens, fn_call, identifier_value, current_pc, closed_expression, expression_parens, interpolated_string_factor, expression_factor_inner, expression_factor, term_operator, expression_term, expression_operator, expression};
 ghost use Rattle.cursor.specs.Text.{Skips};
 ghost use Rattle.cursor.specs.Agree.{Ready, Reads, Leafs};
-ghost use Rattle.expression.specs.Mark.{mark};
 ghost use Rattle.expression.specs.Level.{operator_of, part_of, chain_of};
 ghost use Rattle.expression.specs.Sign.{signed_factor, Missed, Maybe};
 ghost use Rattle.expression.specs.Path.{modified_path};
@@ -35,21 +34,12 @@ fn level_operator(s: &[u8], c: Cursor, level: Level, rows: &mut [u32]) -> Read
     }
 }
 
-// A character behind its trivia.
-fn mark(s: &[u8], c: Cursor, b: u8, rows: &mut [u32]) -> Read
-    requires { Ready 4 s.now c }
-    ensures { Leafs (mark b) s.now c rows.old rows.new result }
-{
-    let k = trivia::trivia(s, c.at, c.met);
-    mark::char(s, c, k, b, rows)
-}
-
-// The character, or nothing.
+// A character behind its trivia, or nothing.
 fn sign(s: &[u8], c: Cursor, b: u8, rows: &mut [u32]) -> Cursor
     requires { Ready 4 s.now c }
     ensures { Maybe b s.now c rows.old rows.new result }
 {
-    match mark(s, c, b, rows) {
+    match mark::spaced(s, c, b, rows) {
         Ok(d) => d,
         Err(Stop::Miss(met)) => Cursor { met, ..c },
         Err(Stop::Deep) => c,
@@ -311,7 +301,7 @@ fn closed(s: &[u8], c: Cursor, left: usize, rows: &mut [u32]) -> Read
 {
     let k = trivia::trivia(s, c.at, c.met);
     let d = expression(s, c, k, left, rows)?;
-    mark(s, d, b')', rows)
+    mark::spaced(s, d, b')', rows)
 }
 
 // A name and its parentheses.
@@ -332,7 +322,7 @@ pub fn call_parens(s: &[u8], c: Cursor, left: usize, rows: &mut [u32]) -> Read
     requires { Ready 0 s.now c }
     ensures { Reads call_parens s.now c left rows.old rows.new result }
 {
-    let d = mark(s, c, b'(', rows)?;
+    let d = mark::spaced(s, c, b'(', rows)?;
     if left == 0 {
         return Err(Stop::Deep);
     }
@@ -347,8 +337,8 @@ fn call_args(s: &[u8], c: Cursor, left: usize, rows: &mut [u32]) -> Read
     ensures { Reads call_args s.now c left rows.old rows.new result }
 {
     match arguments(s, c, left, rows) {
-        Ok(d) => mark(s, d, b')', rows),
-        Err(Stop::Miss(met)) => mark(s, Cursor { met, ..c }, b')', rows),
+        Ok(d) => mark::spaced(s, d, b')', rows),
+        Err(Stop::Miss(met)) => mark::spaced(s, Cursor { met, ..c }, b')', rows),
         Err(Stop::Deep) => Err(Stop::Deep),
     }
 }
@@ -363,7 +353,7 @@ pub fn arguments(s: &[u8], c: Cursor, left: usize, rows: &mut [u32]) -> Read
     let mut next = c;
     loop {
         let last = argument(s, next, left, rows)?;
-        match mark(s, last, b',', rows) {
+        match mark::spaced(s, last, b',', rows) {
             Ok(e) => next = e,
             Err(Stop::Miss(met)) => return Ok(Cursor { met, ..last }),
             Err(Stop::Deep) => return Err(Stop::Deep),

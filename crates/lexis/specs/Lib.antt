@@ -3,3 +3,4 @@ pub mod Finds
 pub mod Picks
 pub mod Suffix
 pub mod Around
+pub mod Spaced

@@ -5,6 +5,8 @@ ghost use Rattle.reading.specs.Grammar.{leaf, one, run0, run1, tag_no_case, ◌�
 ghost use Rattle.reading.specs.Kind.{charᵏ};
 ghost use Rattle.table.specs.Kinds.{kind_number};
 ghost use Rattle.trivia.specs.Class.{bit_of, among, starts, goes};
+ghost use Rattle.cursor.specs.Agree.{Ready, Leafs};
+ghost use Rattle.lexis.specs.Spaced.{spaced};
 ghost use Rattle.lexis.specs.Around.{Spans, Finished};
 ghost use Rattle.lexis.specs.Behind.{Behind, Placed, Rowed};
 ghost use Rattle.lexis.specs.Finds.{Finds};
@@ -60,6 +62,15 @@ pub fn char(s: &[u8], c: Cursor, k: Skip, b: u8, rows: &mut [u32]) -> Read
         return row(c, k, Pos(low.0 + 1), Kind::Char, b as usize, rows);
     }
     Err(Stop::Miss(k.met))
+}
+
+// The byte `b` behind its trivia.
+pub fn spaced(s: &[u8], c: Cursor, b: u8, rows: &mut [u32]) -> Read
+    requires { Ready 4 s.now c }
+    ensures { Leafs (spaced b) s.now c rows.old rows.new result }
+{
+    let k = trivia::trivia(s, c.at, c.met);
+    char(s, c, k, b, rows)
 }
 
 // Letters and digits, the first no digit, and among them the byte `also`: `_` in a name, `-` in a config key.

@@ -54,41 +54,41 @@ arguments-returns-in_err-last t c =
     let p = err_from_is_err_and c.from_residual.result c.from_residual.ensures.1 in
     rw (p.1, p.2) (list_out c.loop-last.invariant c.in_err-last.ensures refl)
 
-pub arguments-mark-requires : goal.arguments-mark-requires
-arguments-mark-requires t c =
+pub arguments-spaced-requires : goal.arguments-spaced-requires
+arguments-spaced-requires t c =
     let st = list_step c.loop-last.invariant c.in_ok-last.ensures argument_solid c.in_ok-last.last refl in
     record { small = c.requires.ready.small; within = st.within; few = omega (arith, st.rows, c.loop-last.invariant.progress.rows, c.requires.ready.few) }
 
 pub arguments-loop-last-smaller : goal.arguments-loop-last-smaller
 arguments-loop-last-smaller t c =
     let st = list_step c.loop-last.invariant c.in_ok-last.ensures argument_solid c.in_ok-last.last refl in
-    let sc = stepped (mark_solid 44) c.in-Ok.e st.within (c.mark.ensures.reading 0 0) c.in-Ok.is in
+    let sc = stepped (mark_solid 44) c.in-Ok.e st.within (c.spaced.ensures.reading 0 0) c.in-Ok.is in
     omega (arith, st.on, st.within, sc.on, sc.within)
 
 pub arguments-loop-last-preserved : goal.arguments-loop-last-preserved
 arguments-loop-last-preserved t c =
-    list_more c.loop-last.invariant c.in_ok-last.ensures argument_solid c.in_ok-last.last refl c.mark.ensures comma_solid c.in-Ok.e c.in-Ok.is
-    c.argument.auto.rows c.mark.auto.rows
+    list_more c.loop-last.invariant c.in_ok-last.ensures argument_solid c.in_ok-last.last refl c.spaced.ensures comma_solid c.in-Ok.e c.in-Ok.is
+    c.argument.auto.rows c.spaced.auto.rows
 
 pub arguments-returns-in-Err-Miss : goal.arguments-returns-in-Err-Miss
 arguments-returns-in-Err-Miss t c =
-    list_last c.loop-last.invariant c.in_ok-last.ensures argument_solid c.in_ok-last.last refl c.mark.ensures _ (c.in-Err-Miss.is ∙ ap Err c.in-Err-Miss.field-0-is)
+    list_last c.loop-last.invariant c.in_ok-last.ensures argument_solid c.in_ok-last.last refl c.spaced.ensures _ (c.in-Err-Miss.is ∙ ap Err c.in-Err-Miss.field-0-is)
 
 pub arguments-returns-in-Err-Deep : goal.arguments-returns-in-Err-Deep
-arguments-returns-in-Err-Deep t c = absurd (leaf_deep c.mark.ensures (c.in-Err-Deep.is ∙ ap Err c.in-Err-Deep.field-0-is))
+arguments-returns-in-Err-Deep t c = absurd (leaf_deep c.spaced.ensures (c.in-Err-Deep.is ∙ ap Err c.in-Err-Deep.field-0-is))
 
-pub call_args-mark-requires : goal.call_args-mark-requires
-call_args-mark-requires t c =
+pub call_args-spaced-requires : goal.call_args-spaced-requires
+call_args-spaced-requires t c =
     let st = stepped list_solid c.in-Ok.d c.requires.ready.within (c.arguments.ensures.reading 0) c.in-Ok.is in
     ready_four (ready_step c.requires.ready st)
 
 pub call_args-returns-in-Ok : goal.call_args-returns-in-Ok
 call_args-returns-in-Ok t c =
-    args_got c.arguments.ensures c.in-Ok.d c.in-Ok.is c.mark.ensures
+    args_got c.arguments.ensures c.in-Ok.d c.in-Ok.is c.spaced.ensures
 
 pub call_args-returns-in-Err-Miss : goal.call_args-returns-in-Err-Miss
 call_args-returns-in-Err-Miss t c =
-    args_miss c.arguments.ensures _ (c.in-Err-Miss.is ∙ ap Err c.in-Err-Miss.field-0-is) c.mark-in-Err-Miss.ensures
+    args_miss c.arguments.ensures _ (c.in-Err-Miss.is ∙ ap Err c.in-Err-Miss.field-0-is) c.spaced-in-Err-Miss.ensures
 
 pub call_args-returns-in-Err-Deep : goal.call_args-returns-in-Err-Deep
 call_args-returns-in-Err-Deep t c = args_deep c.arguments.ensures (c.in-Err-Deep.is ∙ ap Err c.in-Err-Deep.field-0-is)
@@ -116,14 +116,14 @@ closed-returns-in_err-d t c =
     let p = err_from_is_err_and c.from_residual.result c.from_residual.ensures.1 in
     rw (p.1, p.2) (closed_out c.requires.le_at c.requires.ready.within c.in_err-d.ensures refl)
 
-pub closed-mark-requires : goal.closed-mark-requires
-closed-mark-requires t c =
+pub closed-spaced-requires : goal.closed-spaced-requires
+closed-spaced-requires t c =
     let st = stepped expression_solid c.in_ok-d.d c.requires.ready.within (c.in_ok-d.ensures.reading 0) refl in
     ready_four (ready_step c.requires.ready st)
 
 pub closed-returns : goal.closed-returns
 closed-returns t c =
-    closed_got c.requires.le_at c.requires.ready.within c.in_ok-d.ensures c.in_ok-d.d refl c.mark.ensures
+    closed_got c.requires.le_at c.requires.ready.within c.in_ok-d.ensures c.in_ok-d.d refl c.spaced.ensures
 
 pub expression_factor-expression_factor_inner-requires : goal.expression_factor-expression_factor_inner-requires
 expression_factor-expression_factor_inner-requires t c =

@@ -2,7 +2,7 @@ use Prim.Native.Nat.{◌+◌, ◌-◌, ◌*◌}
 use lib.ListN.{length}
 use Rattle.reading.specs.Rules.{expression_arg}
 use Rattle.cursor.proofs.Loops.{Chained, Listed}
-use Rattle.expression.specs.Mark.{mark as markᵍ}
+use Rattle.lexis.specs.Spaced.{spaced as spacedᵍ}
 use Rattle.expression.specs.Level.{operator_of, part_of}
 use Rattle.expression.proofs.Levels.{part_rank}
 use Rattle.expression.proofs.+expression.Given as goal
@@ -47,7 +47,7 @@ abbrev pub decreases-signed : goal.decreases-signed
 decreases-signed l = l.left * 16 + 3
 
 abbrev pub invariant-arguments-loop-last : goal.invariant-arguments-loop-last
-invariant-arguments-loop-last l = Listed expression_arg (markᵍ 44) l.s l.left l.initial.next.at.0 l.initial.next.count.0 l.initial.next.met l.initial.rows l.next.at.0 l.next.count.0 l.next.met l.rows
+invariant-arguments-loop-last l = Listed expression_arg (spacedᵍ 44) l.s l.left l.initial.next.at.0 l.initial.next.count.0 l.initial.next.met l.initial.rows l.next.at.0 l.next.count.0 l.next.met l.rows
 
 abbrev pub decreases-arguments-loop-last : goal.decreases-arguments-loop-last
 decreases-arguments-loop-last l = length l.s - l.next.at.0

@@ -6,5 +6,5 @@ use Rattle.reading.specs.Grammar.{one, Parser, leaf, node, always}
 use Rattle.reading.specs.Rules.{trivia}
 
 -- `char`, by the number of its byte
-abbrev pub mark : ℕ → Parser
-mark b = node charᵏ (always b) trivia (leaf (one (is b)))
+abbrev pub spaced : ℕ → Parser
+spaced b = node charᵏ (always b) trivia (leaf (one (is b)))
