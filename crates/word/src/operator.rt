@@ -15,18 +15,16 @@ fn one(detail: usize) -> Option<Word>
 }
 
 // The word of two bytes, if the second is `b`, else the other answer. The first stands at `at`.
+#[tactic(auto, unfolding(crate::specs::Words::two_or))]
 fn second(s: &[u8], at: Pos, b: u8, detail: usize, other: Option<Word>) -> Option<Word>
     requires { at.0 < length s.now }
     ensures { result ≡ two_or (begins (b ∷ []) (drop (at.0 + 1) s.now)) detail other }
 {
-    let i = at.0 + 1;
-    if i == s.len() {
-        return other;
+    if s.get(at.0 + 1) == Some(&b) {
+        Some(Word { length: 2, detail })
+    } else {
+        other
     }
-    if s[i] == b {
-        return Some(Word { length: 2, detail });
-    }
-    other
 }
 
 // `*` `/` `%` `<<` `>>` `^`
