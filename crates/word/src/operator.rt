@@ -70,6 +70,7 @@ pub fn expression_operator(s: &[u8], at: Pos) -> Option<Word>
 }
 
 // `<` `>`
+#[tactic(auto, using(crate::proofs::Picks::at_byte, crate::proofs::Picks::at_end), unfolding(cursor::specs::Word::first_word, crate::specs::Words::picked_of))]
 pub fn modifier(s: &[u8], at: Pos) -> Option<Word>
     requires { at.0 ≤ length s.now }
     ensures { result ≡ picked_of (first_word modifiers (drop at.0 s.now)) }
