@@ -1,4 +1,6 @@
 // Operators and modifiers: the first byte tells which, and at some of them the second.
+#![tactic(auto, using(crate::proofs::Picks::at_byte, crate::proofs::Picks::at_end), unfolding(cursor::specs::Word::first_word, crate::specs::Words::picked_of, crate::specs::Words::two_or))]
+
 ghost use Rattle.std.specs.Prelude.{Some, [], ◌∷◌, ◌≡◌, ◌+◌, ◌≤◌, ◌<◌, length, drop};
 ghost use Rattle.cursor.specs.Word.{first_word};
 ghost use Rattle.reading.specs.Byte.{begins};
@@ -15,7 +17,6 @@ fn one(detail: usize) -> Option<Word>
 }
 
 // The word of two bytes, if the second is `b`, else the other answer. The first stands at `at`.
-#[tactic(auto, unfolding(crate::specs::Words::two_or))]
 fn second(s: &[u8], at: Pos, b: u8, detail: usize, other: Option<Word>) -> Option<Word>
     requires { at.0 < length s.now }
     ensures { result ≡ two_or (begins (b ∷ []) (drop (at.0 + 1) s.now)) detail other }
@@ -70,7 +71,6 @@ pub fn expression_operator(s: &[u8], at: Pos) -> Option<Word>
 }
 
 // `<` `>`
-#[tactic(auto, using(crate::proofs::Picks::at_byte, crate::proofs::Picks::at_end), unfolding(cursor::specs::Word::first_word, crate::specs::Words::picked_of))]
 pub fn modifier(s: &[u8], at: Pos) -> Option<Word>
     requires { at.0 ≤ length s.now }
     ensures { result ≡ picked_of (first_word modifiers (drop at.0 s.now)) }
