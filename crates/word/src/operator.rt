@@ -33,11 +33,7 @@ pub fn term_operator(s: &[u8], at: Pos) -> Option<Word>
     requires { at.0 ≤ length s.now }
     ensures { result ≡ picked_of (first_word term_operators (drop at.0 s.now)) }
 {
-    let i = at.0;
-    if s.len() <= i {
-        return None;
-    }
-    match s[i] {
+    match *s.get(at.0)? {
         b'*' => one(3),
         b'/' => one(4),
         b'%' => one(5),
@@ -53,11 +49,7 @@ pub fn expression_operator(s: &[u8], at: Pos) -> Option<Word>
     requires { at.0 ≤ length s.now }
     ensures { result ≡ picked_of (first_word expression_operators (drop at.0 s.now)) }
 {
-    let i = at.0;
-    if s.len() <= i {
-        return None;
-    }
-    match s[i] {
+    match *s.get(at.0)? {
         b'+' => one(1),
         b'-' => one(2),
         b'=' => second(s, at, b'=', 9, None),
@@ -75,11 +67,7 @@ pub fn modifier(s: &[u8], at: Pos) -> Option<Word>
     requires { at.0 ≤ length s.now }
     ensures { result ≡ picked_of (first_word modifiers (drop at.0 s.now)) }
 {
-    let i = at.0;
-    if s.len() <= i {
-        return None;
-    }
-    match s[i] {
+    match *s.get(at.0)? {
         b'<' => one(2),
         b'>' => one(1),
         _ => None,
