@@ -32,35 +32,6 @@ pub at_end : (xs : List (Leaf × ℕ)) (s : List ℕ) (i : ℕ) {r : Optional Wo
     → r ≡ picked_of (first_word xs (drop i s))
 at_end xs s i h p = p ∙ ap (λ (t : List ℕ). picked_of (first_word xs t)) (sym (drop_of_length-le s h))
 
--- a word of two bytes before the others
-pub two_is : (x : Bool) (d : ℕ) (o : Option (ℕ × ℕ)) → two_or x d (picked_of o) ≡ picked_of (word_or d (given x 2) o)
-unfolding two_or picked_of
-two_is true d o = refl
-two_is false d o = refl
-
-abbrev pub head : Leaf × ℕ → ℕ
-head x = letter x 0
-
--- the list, its words written out again as tags of at least one byte
-abbrev pub tags : List (Leaf × ℕ) → List (Leaf × ℕ)
-tags [] = []
-tags (x ∷ xs) = (tag (head x ∷ drop 1 (spelt x.0)), x.1) ∷ tags xs
-
-no_word : (ks : List ℕ) (xs : List (Leaf × ℕ)) (b : ℕ) (t : List ℕ) → T (keyed head ks xs) → Others (Unit {0}) ks b
-    → first_word (tags xs) (b ∷ t) ≡ none
-unfolding first_word
-no_word ks [] b t u h = refl
-no_word ks (x ∷ xs) b t u h =
-    let a = apart head ks x xs b u h in
-    let w = drop 1 (spelt x.0) in
-    ap (λ (y : Bool). word_or x.1 (given (elim y [ true ↦ begins w t | false ↦ false ]) (length (head x ∷ w))) (first_word (tags xs) (b ∷ t))) a.0
-    ∙ no_word ks xs b t a.1 h
-
-pub no_operator : (ks : List ℕ) (xs : List (Leaf × ℕ)) (s : List ℕ) (i : ℕ) → T (keyed head ks xs) → i < length s → Others (Unit {0}) ks (get_or s i 0)
-    → picked_of none ≡ picked_of (first_word (tags xs) (drop i s))
-no_operator ks xs s i u h o =
-    at_byte (tags xs) s i (get_or s i 0) h refl (ap picked_of (sym (no_word ks xs (get_or s i 0) (drop (i + 1) s) u o)))
-
 -- Byte by byte -------------------------------------------------------------
 
 module _ (w s : List ℕ) (i j : ℕ) (h : i < length w) (k : j < length s) where
