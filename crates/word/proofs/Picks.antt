@@ -34,16 +34,6 @@ at_end xs s i h p = p ∙ ap (λ (t : List ℕ). picked_of (first_word xs t)) (s
 
 -- Byte by byte -------------------------------------------------------------
 
-module _ (w s : List ℕ) (i j : ℕ) (h : i < length w) (k : j < length s) where
-  one_byte : begins_no_case (drop i w) (drop j s) ≡ eqb (get_or w i 0) (lower (get_or s j 0)) && begins_no_case (drop (i + 1) w) (drop (j + 1) s)
-  one_byte = ap (λ (v : List ℕ). begins_no_case v (drop j s)) (cons w i h) ∙ begins_no_case_at (get_or w i 0) (drop (i + 1) w) s j k
-
-  pub differs : (get_or w i 0 ≡ lower (get_or s j 0) → ⊥) → begins_no_case (drop i w) (drop j s) ≡ false
-  differs n = one_byte ∙ ap (◌&& begins_no_case (drop (i + 1) w) (drop (j + 1) s)) (ne_eqb (get_or w i 0) (lower (get_or s j 0)) n)
-
-  pub agrees : get_or w i 0 ≡ lower (get_or s j 0) → begins_no_case (drop i w) (drop j s) ≡ begins_no_case (drop (i + 1) w) (drop (j + 1) s)
-  agrees e = one_byte ∙ ap (◌&& begins_no_case (drop (i + 1) w) (drop (j + 1) s)) (eq-eqb (get_or w i 0) (lower (get_or s j 0)) e)
-
 pub too_long : (w t : List ℕ) → length t < length w → begins_no_case w t ≡ false
 too_long w t h = go (begins_no_case w t) refl
   where
