@@ -1,24 +1,19 @@
 -- The word of a list that is picked by its first byte, and by its second; and a word compared byte by byte.
 -- Assumes nothing.
 use mathlib.Core.Path.{◌≡◌, refl, ap, sym, subst, ◌∙◌}
-use mathlib.Core.Bool.{Bool, true, false, ◌&&◌}
+use mathlib.Core.Bool.{Bool, true, false}
 use mathlib.Core.List.{List, [], ◌∷◌}
-use mathlib.Core.Option.{Option, none}
 use Prim.Native.Nat.{ℕ, ◌+◌, ◌≤◌, ◌<◌}
 use native.Mathlib.Omega.{arith}
-use borrow.Author.Tests.{eq-eqb, ne_eqb}
-use lib.Dec.{T, eqb}
 use lib.ListN.{length, get_or, drop, drop_of_length-le}
-use Rattle.reading.specs.Byte.{lower, begins, begins_no_case, given}
-use Rattle.reading.specs.Grammar.{Leaf, tag, tag_no_case}
+use Rattle.reading.specs.Byte.{begins_no_case, given}
+use Rattle.reading.specs.Grammar.{Leaf, tag_no_case}
 use Rattle.reading.proofs.Ahead.{Fits, taken_fits}
-use Rattle.cursor.specs.Word.{word_or, first_word}
-use Rattle.cursor.proofs.Places.{cons, begins_no_case_at}
-use Rattle.word.specs.Hash.{spelt, letter}
-use Rattle.word.specs.Words.{picked_of, two_or}
+use Rattle.cursor.specs.Word.{first_word}
+use Rattle.cursor.proofs.Places.{cons}
+use Rattle.word.specs.Words.{picked_of}
 use Rattle.word.specs.declared.Word.{Word}
 use Rattle.std.specs.Prelude.{Option as Optional}
-use Rattle.word.proofs.Arms.{Others, keyed, apart}
 
 -- By the first byte --------------------------------------------------------
 

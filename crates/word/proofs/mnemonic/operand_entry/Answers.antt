@@ -1,10 +1,8 @@
 -- `word::mnemonic::operand_entry` meets its contract: antt computes the entry of each arm.
 -- Assumes nothing.
-use mathlib.Core.Path.{ap, sym}
 use mathlib.Core.List.{List, [], ◌∷◌}
 use Prim.Native.Nat.{ℕ}
 use Rattle.reading.specs.Mnemonic.{mnemonics}
-use Rattle.word.specs.Hash.{entry_at}
 use Rattle.word.proofs.Hashes.{no_entry}
 use borrow.Author.Rules.{rules}
 use Rattle.word.proofs.mnemonic.operand_entry.Goals as goal
