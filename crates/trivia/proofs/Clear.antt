@@ -1,6 +1,6 @@
 -- Blocks of bytes in which a test fails: no closing mark starts there, or no line ends.
 use mathlib.Core.Path.{◌≡◌, refl, ap, sym, ◌∙◌}
-use mathlib.Core.Bool.{Bool, true, false, not, ◌&&◌, ◌||◌, and-false}
+use mathlib.Core.Bool.{Bool, true, false, not, ◌&&◌, and-false}
 use mathlib.Core.List.{List, [], ◌∷◌}
 use mathlib.Core.Option.{Option, none, some}
 use Prim.Native.Nat.{ℕ, zero, suc, ◌+◌, ◌≤◌, ◌<◌}
@@ -21,9 +21,6 @@ use Rattle.std.specs.Prelude.{None}
 
 -- Tests that no place of a part passes -----------------------------------------
 
-pub clear_none : {f : ℕ → Bool} (a z : ℕ) → z ≤ a → Clear f a z
-clear_none a z e = record { plain = λ i h k. absurd (let z : ⊥ = omega (arith, e, h, k) in z) }
-
 pub clear_both : {f : ℕ → Bool} {a m z : ℕ} → Clear f a m → Clear f m z → Clear f a z
 clear_both {f} {a} {m} {z} g h = record { plain = λ i p q. among i p q (ltb i m) refl }
   where
@@ -34,9 +31,6 @@ clear_both {f} {a} {m} {z} g h = record { plain = λ i p q. among i p q (ltb i m
 -- a place that does not pass, at the end
 pub clear_more : {f : ℕ → Bool} {a m z : ℕ} → Clear f a m → z ≡ m + 1 → f m ≡ false → Clear f a z
 clear_more {f} {a} {m} {z} g n e = clear_both g (record { plain = λ i h k. ap f (let z : i ≡ m = omega (arith, n, h, k) in z) ∙ e })
-
-pub clear_found : {f : ℕ → Bool} {a m z : ℕ} (x : Bool) → (x ≡ false → Clear f a m) → z ≡ m + 1 → x || f m ≡ false → Clear f a z
-clear_found {f} {a} {m} x g n e = let z = neither x (f m) e in clear_more (g z.0) n z.1
 
 pub clear_to : {f : ℕ → Bool} {a m z : ℕ} → Clear f a m → z ≤ m → Clear f a z
 clear_to g n = record { plain = λ i h k. g.plain i h (omega (arith, n, k)) }
@@ -88,10 +82,6 @@ unmarked_open s at h = sym (ap (close_of at) (never (drop at s) 0 0 plain))
         ∙ ap (λ x. eqb (get_or s (at + i) 0) 42 && eqb x 47) (get_or-drop at s (suc i) 0 ∙ ap (λ j. get_or s j 0) (add-suc at i ∙ sym (add-one (at + i))))
         ∙ byte i
 
--- the last byte starts no mark
-pub unmarked_last : (s : List ℕ) {a m : ℕ} → Clear (closes_at s) a m → length s ≤ m + 1 → Clear (closes_at s) a (length s)
-unmarked_last s {a} {m} f n = clear_to (clear_more f refl (ap (λ x. eqb (get_or s m 0) 42 && eqb x 47) (past s (m + 1) n) ∙ and-false (eqb (get_or s m 0) 42))) n
-
 -- a run goes on over places that do not end it
 run_over : (f : ℕ → Bool) (s : List ℕ) (i n : ℕ) → i + n ≤ length s → ((j : ℕ) → i ≤ j → j < i + n → f (get_or s j 0) ≡ true)
     → i + run f (drop i s) ≡ (i + n) + run f (drop (i + n) s)
@@ -118,9 +108,6 @@ stars_over s d i (suc n) h g =
   where
     star : (j : ℕ) → i ≤ j → j < i + suc n + 1 → eqb (get_or s j 0) 42 ≡ false
     star j a b = (neither (eqb (get_or s j 0) 42) (eqb (get_or s j 0) 42) (g.plain j a b)).0
-
-pub unmarked_none : (s : List ℕ) (i : ℕ) → Unmarked s i i
-unmarked_none s i = record { on = omega arith; same = λ d. refl }
 
 pub unmarked_more : {s : List ℕ} {a i : ℕ} → Unmarked s a i → i + 16 ≤ length s → Clear (either_at 42 42 s) i (i + 16) → Unmarked s a (i + 15)
 unmarked_more {s} {a} {i} u h g =

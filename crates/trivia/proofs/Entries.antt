@@ -8,7 +8,6 @@ use lib.ListN.{length, length-append}
 use Rattle.reading.specs.Items.{Item as Entry, item, items_from, items, item_width, item_words}
 use Rattle.reading.specs.Table.{error_width}
 use Rattle.cursor.specs.Text.{here}
-use Rattle.table.specs.declared.Pos.{Pos}
 use Rattle.table.specs.Words.{pushed, error_record, Holds}
 use Rattle.table.proofs.Holds.{Writes, holds_more}
 use Rattle.trivia.specs.Answers.{Lists}

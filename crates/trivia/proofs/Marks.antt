@@ -1,7 +1,7 @@
 -- A block comment, byte by byte.
 use mathlib.Core.Path.{◌≡◌, refl, ap, ap₂, sym, ◌∙◌}
-use mathlib.Core.Bool.{Bool, true, false, ◌||◌, ◌&&◌}
-use mathlib.Core.List.{List, [], ◌∷◌}
+use mathlib.Core.Bool.{Bool, true, false, ◌&&◌}
+use mathlib.Core.List.{List}
 use mathlib.Core.Option.{Option, none, some}
 use Prim.Native.Nat.{ℕ, zero, suc, ◌+◌, ◌-◌, ◌≤◌, ◌<◌}
 use native.Mathlib.Numerals.{add-one}
@@ -9,7 +9,6 @@ use native.Mathlib.Omega.{arith}
 use lib.ListN.{length, get_or, drop, drop_of_length-le}
 use lib.Dec.{eqb, ltb}
 use borrow.Author.Tests.{eqb-true, ne_eqb, ltb-true, ltb-false}
-use Rattle.reading.proofs.Bool.{neither}
 use Rattle.reading.specs.Byte.{comment, plus}
 use Rattle.cursor.proofs.Places.{cons}
 use Rattle.trivia.specs.Piece.{close_of, closed, left}
@@ -39,15 +38,6 @@ pair d c t x y =
       | true ↦ elim d [ zero ↦ some 1 | suc e ↦ plus 1 (comment e 0 t) ]
       | false ↦ elim y [ true ↦ plus 1 (comment (suc d) 0 t) | false ↦ plus 1 (comment d c t) ]
     ]
-
--- a byte that is neither a slash nor a star is as none
-plain : (d b : ℕ) (t : List ℕ) → eqb b 42 ≡ false → eqb b 47 ≡ false → comment d b t ≡ comment d 0 t
-plain d b [] e f = refl
-plain d b (c ∷ t) e f = ap₂ (λ x y. pair d c t (x && eqb c 47) (y && eqb c 42)) e f
-
-pub left_plain : (s : List ℕ) (d b i : ℕ) → eqb b 47 || eqb b 42 ≡ false → left s d b i ≡ left s d 0 i
-unfolding left
-left_plain s d b i e = let z = neither (eqb b 47) (eqb b 42) e in ap (close_of i) (plain d b (drop i s) z.1 z.0)
 
 module _ (s : List ℕ) (b i : ℕ) (h : i < length s) where
   byte : (d : ℕ) (x y : Bool) → eqb b 42 && eqb (get_or s i 0) 47 ≡ x → eqb b 47 && eqb (get_or s i 0) 42 ≡ y

@@ -11,7 +11,6 @@ use Rattle.reading.specs.Grammar.{Rows, Rule, ◌▸◌, many0, joined}
 use Rattle.reading.specs.Rules.{opt, trivia, multiline_trivia}
 use Rattle.reading.specs.Summary.{fits, more, thenˢ, elseˢ, withˢ, last_roundˢ, gateˢ, next_roundˢ, Scan, roundsˢ, scan}
 use Rattle.cursor.specs.Text.{here, skip, Skips}
-use Rattle.table.specs.declared.Pos.{Pos}
 use Rattle.trivia.specs.Piece.{summary_of, item_for, trivia_of, kept, Bounded, Starts, Nothing}
 use Rattle.trivia.proofs.Pieces.{starts_feed, starts_plain, an}
 use Rattle.std.proofs.lemmas.List.{get_or_read}

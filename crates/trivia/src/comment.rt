@@ -25,7 +25,8 @@ fn block_closes(s: &[u8], at: Pos) -> bool
     found
 }
 
-// The end of the blocks from here on in which no closing mark starts.
+// The end of the blocks from here on in which no closing mark starts. This and the other two loops over blocks are `while`s, since they go on by
+// more than one. They differ in the step and in what is known where a block passes: as one function over a test they would be no shorter.
 fn blocks_end(s: &[u8], at: Pos) -> Pos
     ensures { Clear (closes_at s.now) at.0 result.0 }
 {

@@ -1,9 +1,10 @@
 // Runs trivia::items on texts and tables picked by hand, and prints each answer and the whole table. A table is sevens before the call.
 #![tactic(auto)]
 
+use reading::Refusal;
 use std::io;
 use std::io::{BufWriter, Write};
-use trivia::ItemsAnswer;
+use trivia::ItemsError;
 
 fn main(rt: HostRuntime) -> io::Result<()> {
     let mut out = BufWriter::new(rt.alloc(), io::writer(&rt))?;
@@ -118,30 +119,16 @@ fn show(out: &mut impl Write, name: &[u8], text: &[u8], table: &mut [u32]) -> io
     out.write_all(b"\n")
 }
 
-fn answer(out: &mut impl Write, a: ItemsAnswer) -> io::Result<()> {
+fn answer(out: &mut impl Write, a: Result<usize, ItemsError>) -> io::Result<()> {
     match a {
-        ItemsAnswer::Count(n) => number(out, b"items", n),
-        ItemsAnswer::TooLong(n) => number(out, b"refusal 1", n),
-        ItemsAnswer::HighByte(n) => number(out, b"refusal 2", n),
-        ItemsAnswer::NoItem(n) => number(out, b"refusal 11", n),
-        ItemsAnswer::NoRoom(n) => number(out, b"refusal 12", n),
+        Ok(n) => write!(out, "items {n};"),
+        Err(e) => write!(out, "refusal {} {};", e.number(), e.gives()),
     }
-}
-
-fn number(out: &mut impl Write, word: &[u8], n: usize) -> io::Result<()> {
-    out.write_all(word)?;
-    write!(out, " {n};")
 }
 
 fn words(out: &mut impl Write, table: &[u32]) -> io::Result<()> {
-    let mut i: usize = 0;
-    while i < table.len() {
-        word(out, table[i])?;
-        i += 1;
+    for word in table {
+        write!(out, " {word}")?;
     }
     Ok(())
-}
-
-fn word(out: &mut impl Write, n: u32) -> io::Result<()> {
-    write!(out, " {n}")
 }

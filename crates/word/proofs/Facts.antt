@@ -43,20 +43,6 @@ encoding_is = refl
 pub begins_within : (w s : List ℕ) (i : ℕ) → i ≤ length s → begins_no_case w (drop i s) ≡ true → i + length w ≤ length s
 begins_within w s i h e = leaf_within (tag_no_case w) s i (length w) h (ap (λ (x : Bool). given x (length w)) e)
 
--- the first word of a list, and what the others are left for
-module _ (w : List ℕ) (d : ℕ) (xs : List (Leaf × ℕ)) (t : List ℕ) where
-  pub first_is : begins_no_case w t ≡ true → first_word ((tag_no_case w, d) ∷ xs) t ≡ some (length w, d)
-  unfolding first_word
-  first_is e = ap (λ (x : Bool). word_or d (given x (length w)) (first_word xs t)) e
-
-  pub first_not : begins_no_case w t ≡ false → first_word ((tag_no_case w, d) ∷ xs) t ≡ first_word xs t
-  unfolding first_word
-  first_not e = ap (λ (x : Bool). word_or d (given x (length w)) (first_word xs t)) e
-
-pub first_none : (t : List ℕ) → first_word [] t ≡ none
-unfolding first_word
-first_none t = refl
-
 -- A word that was picked -----------------------------------------------------
 
 -- each word has one to nine bytes, and its detail is at most 56

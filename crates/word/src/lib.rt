@@ -43,6 +43,7 @@ pub fn begins(s: &[u8], at: Pos, word: &[u8]) -> bool
 }
 
 // `ascii` `petscii` `petscreen`
+#[tactic(auto, unfolding(cursor::specs::Word::first_word, crate::specs::Words::picked_of))]
 pub fn encoding(s: &[u8], at: Pos) -> Option<Word>
     requires { at.0 ≤ length s.now }
     ensures { result ≡ picked_of (first_word encodings (drop at.0 s.now)) }

@@ -10,6 +10,7 @@ use table::Pos;
 
 // The word with a hash, its detail before its letters, of those that may have an operand; 0 where there is none. A `match` this dense is
 // compiled to a table; an array would be built anew at each call.
+#[tactic(auto, unfolding(crate::specs::Hash::entry_at))]
 fn operand_entry(hash: u64) -> u64
     ensures { result ≡ entry_at mnemonics hash }
 {
@@ -50,6 +51,7 @@ fn operand_entry(hash: u64) -> u64
 }
 
 // The same of those that may be implied.
+#[tactic(auto, unfolding(crate::specs::Hash::entry_at))]
 fn implied_entry(hash: u64) -> u64
     ensures { result ≡ entry_at implied_mnemonics hash }
 {

@@ -1,4 +1,6 @@
 // Operators and modifiers: the first byte tells which, and at some of them the second.
+#![tactic(auto, using(crate::proofs::Picks::at_byte, crate::proofs::Picks::at_end), unfolding(cursor::specs::Word::first_word, crate::specs::Words::picked_of, crate::specs::Words::two_or))]
+
 ghost use Rattle.std.specs.Prelude.{Some, [], ◌∷◌, ◌≡◌, ◌+◌, ◌≤◌, ◌<◌, length, drop};
 ghost use Rattle.cursor.specs.Word.{first_word};
 ghost use Rattle.reading.specs.Byte.{begins};
@@ -19,14 +21,11 @@ fn second(s: &[u8], at: Pos, b: u8, detail: usize, other: Option<Word>) -> Optio
     requires { at.0 < length s.now }
     ensures { result ≡ two_or (begins (b ∷ []) (drop (at.0 + 1) s.now)) detail other }
 {
-    let i = at.0 + 1;
-    if i == s.len() {
-        return other;
+    if s.get(at.0 + 1) == Some(&b) {
+        Some(Word { length: 2, detail })
+    } else {
+        other
     }
-    if s[i] == b {
-        return Some(Word { length: 2, detail });
-    }
-    other
 }
 
 // `*` `/` `%` `<<` `>>` `^`
@@ -34,11 +33,7 @@ pub fn term_operator(s: &[u8], at: Pos) -> Option<Word>
     requires { at.0 ≤ length s.now }
     ensures { result ≡ picked_of (first_word term_operators (drop at.0 s.now)) }
 {
-    let i = at.0;
-    if s.len() <= i {
-        return None;
-    }
-    match s[i] {
+    match *s.get(at.0)? {
         b'*' => one(3),
         b'/' => one(4),
         b'%' => one(5),
@@ -54,11 +49,7 @@ pub fn expression_operator(s: &[u8], at: Pos) -> Option<Word>
     requires { at.0 ≤ length s.now }
     ensures { result ≡ picked_of (first_word expression_operators (drop at.0 s.now)) }
 {
-    let i = at.0;
-    if s.len() <= i {
-        return None;
-    }
-    match s[i] {
+    match *s.get(at.0)? {
         b'+' => one(1),
         b'-' => one(2),
         b'=' => second(s, at, b'=', 9, None),
@@ -76,11 +67,7 @@ pub fn modifier(s: &[u8], at: Pos) -> Option<Word>
     requires { at.0 ≤ length s.now }
     ensures { result ≡ picked_of (first_word modifiers (drop at.0 s.now)) }
 {
-    let i = at.0;
-    if s.len() <= i {
-        return None;
-    }
-    match s[i] {
+    match *s.get(at.0)? {
         b'<' => one(2),
         b'>' => one(1),
         _ => None,

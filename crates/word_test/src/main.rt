@@ -6,10 +6,10 @@ ghost use Rattle.std.specs.Prelude.{◌≤◌, length};
 use std::io;
 use std::io::{BufWriter, Write};
 use table::Pos;
-use word::{Picked, mnemonic, operator};
+use word::{Word, mnemonic, operator};
 
 // The word of one of the lists, by the list's number.
-fn pick(s: &[u8], at: Pos, list: usize) -> Picked
+fn pick(s: &[u8], at: Pos, list: usize) -> Option<Word>
     requires { at.0 ≤ length s.now }
 {
     match list {
@@ -22,12 +22,12 @@ fn pick(s: &[u8], at: Pos, list: usize) -> Picked
     }
 }
 
-fn show(out: &mut impl Write, cell: &[u8], w: Picked) -> io::Result<()> {
+fn show(out: &mut impl Write, cell: &[u8], w: Option<Word>) -> io::Result<()> {
     out.write_all(cell)?;
-    let Picked::Word(n, d) = w else {
-        return out.write_all(b" -\n");
-    };
-    writeln!(out, " {n} {d}")
+    match w {
+        Some(w) => writeln!(out, " {} {}", w.length, w.detail),
+        None => writeln!(out, " -"),
+    }
 }
 
 // Each cell of a text, and the rest of it that is shorter.

@@ -1,4 +1,4 @@
-use mathlib.Core.Path.{◌≡◌, ap, sym, ◌∙◌}
+use mathlib.Core.Path.{sym}
 use Rattle.trivia.proofs.Highs.{none_high, high_is}
 use Rattle.trivia.proofs.first_high.Goals as goal
 

@@ -1,7 +1,7 @@
 -- The invariant: the run behind the first byte ends where the run from i on does.
 use mathlib.Core.Path.{◌≡◌}
-use Prim.Native.Nat.{◌+◌, ◌-◌}
-use lib.ListN.{length, drop}
+use Prim.Native.Nat.{◌+◌}
+use lib.ListN.{drop}
 use Rattle.reading.specs.Byte.{run}
 use Rattle.trivia.specs.Class.{goes}
 use Rattle.trivia.proofs.name_end.Given as goal

@@ -1,7 +1,7 @@
 -- The invariant: the run from the start on ends where the run from i on does.
 use mathlib.Core.Path.{◌≡◌}
-use Prim.Native.Nat.{◌+◌, ◌-◌}
-use lib.ListN.{length, drop}
+use Prim.Native.Nat.{◌+◌}
+use lib.ListN.{drop}
 use Rattle.reading.specs.Byte.{run}
 use Rattle.trivia.specs.Class.{bit_of, among}
 use Rattle.trivia.proofs.run_end.Given as goal

@@ -1,7 +1,6 @@
 -- The loop's invariant: what is left of the word is to be compared with the text behind `at + i`.
 use mathlib.Core.Path.{◌≡◌}
-use Prim.Native.Nat.{◌+◌, ◌-◌, ◌≤◌}
-use lib.ListN.{length, drop}
+use lib.ListN.{drop}
 use Rattle.reading.specs.Byte.{begins_no_case}
 use Rattle.word.proofs.begins.Given as goal
 

@@ -1,7 +1,6 @@
 -- The invariant: unless one was found, no closing mark starts in the bytes looked at.
 use mathlib.Core.Path.{◌≡◌}
 use mathlib.Core.Bool.{false}
-use Prim.Native.Nat.{◌+◌, ◌-◌, ◌≤◌}
 use Rattle.trivia.specs.Piece.{closes_at, Clear}
 use Rattle.trivia.proofs.comment.block_closes.Given as goal
 

@@ -1,7 +1,6 @@
 -- The invariant: unless one was found, neither byte stands in the bytes looked at.
 use mathlib.Core.Path.{◌≡◌}
 use mathlib.Core.Bool.{false}
-use Prim.Native.Nat.{◌+◌, ◌-◌, ◌≤◌}
 use Rattle.trivia.specs.Piece.{either_at, Clear}
 use Rattle.trivia.proofs.comment.block_has.Given as goal
 

@@ -1,6 +1,4 @@
 -- The invariant: no closing mark starts from the first byte looked at on, before i.
-use Prim.Native.Nat.{◌-◌}
-use lib.ListN.{length}
 use Rattle.trivia.specs.Piece.{closes_at, Clear}
 use Rattle.trivia.proofs.comment.closes.Given as goal
 
