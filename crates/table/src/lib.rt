@@ -1,6 +1,6 @@
 // Places, row numbers, and the lent tables. All code has the widths of records and the columns of rows from here. The definition has the widths
 // and the order of the words in crate reading (specs/Table), and the contracts say that both agree.
-// Outside stay the width of an item of trivia (crate trivia, which pushes one as it would an error) and the numbers in the C header, which
+// Outside stay the width of an item of trivia (crate trivia) and the numbers in the C header, which
 // library/compare holds to these.
 #![tactic(auto)]
 
@@ -136,7 +136,7 @@ pub fn place_row(rows: &mut [u32], n: RowIndex, tlow: Pos, low: Pos, high: Pos)
 }
 
 // A record with this number, if the table has room for it.
-fn push<const W: usize>(table: &mut [u32], n: usize, words: &[u32; W])
+pub fn push<const W: usize>(table: &mut [u32], n: usize, words: &[u32; W])
     requires { 0 < W }
     ensures { table.new ≡ pushed W table.old n words.now }
 {

@@ -221,7 +221,7 @@ struct Listing {
     end: Pos,
 }
 
-// The items from the text's start on, in the table as far as it has room. An item is pushed as an error is: three words.
+// The items from the text's start on, in the table as far as it has room.
 fn list_items(text: &[u8], table: &mut [u32]) -> Listing
     requires { length text.now ≤ max_text }
     ensures { Lists text.now table.new result }
@@ -235,7 +235,7 @@ fn list_items(text: &[u8], table: &mut [u32]) -> Listing
                 end: Pos(i),
             };
         };
-        table::push_error(table, n, item.kind.number() as usize, Pos(i), item.end);
+        table::push::<ITEM>(table, n, &[item.kind.number(), i as u32, item.end.0 as u32]);
         i = item.end.0;
         n += 1;
     }
