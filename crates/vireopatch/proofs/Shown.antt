@@ -1,71 +1,51 @@
--- What a call's answer is in numbers is what its definition exports: one law for each call, case by case.
-use mathlib.Core.Bool.{Bool}
+-- What a call's answer is in numbers is what its definition exports: one law for each call, of an answer and of a refusal.
 use mathlib.Core.List.{List}
 use mathlib.Core.Option.{Option}
 use mathlib.Core.Path.{◌≡◌, refl, ap, sym, ◌∙◌}
 use Prim.Native.Nat.{ℕ}
-use Rattle.reading.specs.Table.{Answer as Answered}
-use Rattle.reading.specs.Outcome.{Call, Outcome, outcome}
-use Rattle.reading.specs.Items.{Listed}
+use Rattle.std.specs.Prelude.{Result, Ok, Err}
+use Rattle.std.specs.Result.{result_unwrap_or}
+use Rattle.reading.specs.Outcome.{Call, outcome}
 use Rattle.reading.specs.Number.{Base, number_value}
-use Rattle.reading.specs.Walk.{Subtree}
-use Rattle.parser.specs.Answers.{told, end_scope, end_swallow, Meets}
-use Rattle.parser.specs.declared.Answer.{Answer}
-use Rattle.parser.specs.declared.Answer.TheVariants.{Read, TooLong, HighByte, ScopeTooLarge, LevelTooLarge, TooDeep, NoRoomForRows, NoRoomForErrors, NoRoomForRequests}
-use Rattle.number.specs.Answers.{base_of, base_told, told as value_told}
+use Rattle.parser.specs.Answers.{Answer as Read, Meets}
+use Rattle.parser.specs.Refusal.{number_of as read_number, gives_of as read_gives}
+use Rattle.parser.specs.Seen.{answer_seen}
+use Rattle.parser.specs.declared.Reading.{Reading}
+use Rattle.number.specs.Answers.{base_of, base_told, refusal_number, told as value_told}
 use Rattle.number.specs.declared.NumberType.{NumberType}
 use Rattle.number.specs.declared.UnknownType.{UnknownType}
 use Rattle.number.specs.declared.ValueError.{ValueError}
-use Rattle.number.specs.declared.ValueError.TheVariants.{NotANumber, TooLarge}
-use Rattle.std.specs.Prelude.{Result, Ok, Err}
 use Rattle.trivia.specs.Answers.{listed, told as items_told}
-use Rattle.trivia.specs.declared.ItemsAnswer.{ItemsAnswer}
-use Rattle.trivia.specs.declared.ItemsAnswer.TheVariants.{Count, TooLong as too_long, HighByte as high_byte, NoItem, NoRoom}
+use Rattle.trivia.specs.Refusal.{number_of as items_number, gives_of as items_gives}
+use Rattle.trivia.specs.declared.error.ItemsError.{ItemsError}
 use Rattle.table.specs.Answers.{told as walk_told}
-use Rattle.table.specs.declared.Walked.{Walked}
-use Rattle.table.specs.declared.Walked.TheVariants.{Subtree as subtree, NoSubtree}
-use Rattle.share.specs.Answers.{told as shares_told, told_words}
-use Rattle.share.specs.Shares.{Shares}
-use Rattle.share.specs.Words.{Told}
-use Rattle.share.specs.declared.SharesAnswer.{SharesAnswer}
-use Rattle.share.specs.declared.SharesAnswer.TheVariants.{Found, TooManyTexts, WrongText}
-use Rattle.share.specs.declared.TextAnswer.{TextAnswer}
-use Rattle.share.specs.declared.TextAnswer.TheVariants.{Words, NoSubtree as no_subtree, NoRoom as no_room, WrongText as wrong_text}
-use Rattle.vireopatch.specs.Seen.{Seen, seen, exported, base_numbered, value_in, seen_value, exported_value, SeenItems, seen_items, exported_items, SeenWalk, seen_walk, exported_walk, SeenShares, seen_shares, exported_shares, SeenWords, seen_words, exported_words}
-use Rattle.vireopatch.specs.Numbers.{numbered, numbered_value, numbered_items, numbered_walk, numbered_shares, numbered_words}
-use Rattle.vireopatch.specs.declared.ReadNumbers.{ReadNumbers}
-use Rattle.vireopatch.specs.declared.ValueNumbers.{ValueNumbers}
-use Rattle.vireopatch.specs.declared.ItemNumbers.{ItemNumbers}
-use Rattle.vireopatch.specs.declared.WalkNumbers.{WalkNumbers}
-use Rattle.vireopatch.specs.declared.SharesNumbers.{SharesNumbers}
-use Rattle.vireopatch.specs.declared.WordsNumbers.{WordsNumbers}
+use Rattle.table.specs.declared.Subtree.{Subtree}
+use Rattle.table.specs.declared.NoSubtree.{NoSubtree}
+use Rattle.share.specs.Answers.{told as shares_told, told_words, shares_number, shares_gives, words_number, words_gives}
+use Rattle.share.specs.declared.SharesFound.{SharesFound}
+use Rattle.share.specs.declared.SharesError.{SharesError}
+use Rattle.share.specs.declared.TextWords.{TextWords}
+use Rattle.share.specs.declared.WordsError.{WordsError}
+use Rattle.vireopatch.specs.Seen.{code_of, given_of, Seen, seen, exported, base_numbered, value_in, seen_value, exported_value, SeenItems, seen_items, exported_items, SeenWalk, seen_walk, exported_walk, SeenShares, seen_shares, exported_shares, SeenWords, seen_words, exported_words}
+use Rattle.vireopatch.specs.Told.{told}
 
 -- Reading a text ------------------------------------------------------------
 
-pub same_numbers : (a b : Answer) (n : ℕ) (f : Bool) → a ≡ b → numbered a n f ≡ numbered b n f
-same_numbers a b n f e = ap (λ (x : Answer). numbered x n f) e
+abbrev read_seen : List ℕ → List ℕ → List ℕ → Read → Reading → Seen
+read_seen t e q r x =
+    seen (code_of (told read_number read_gives r)) t e q x.rows x.errors x.requests x.scope x.swallow (given_of (told read_number read_gives r))
 
-abbrev shown : ReadNumbers → List ℕ → List ℕ → List ℕ → Seen
-shown x t e q = seen x.code t e q x.rows x.errors x.requests x.scope x.swallow x.given
+-- a refusal has no records, and the end state is the starting state
+abbrev read_or : Call → Read → Reading
+read_or c r = result_unwrap_or r (record { rows = 0; errors = 0; requests = 0; scope = c.scope; swallow = c.swallow })
 
-abbrev met : Call → List ℕ → List ℕ → List ℕ → Answer → Outcome
-met c t e q r = record { answer = told r; scope = end_scope c r; swallow = end_swallow c r; rows = t; errors = e; requests = q }
-
-numbers_shown : (c : Call) (t e q : List ℕ) (r : Answer) → shown (numbered r c.scope c.swallow) t e q ≡ exported (met c t e q r)
+read_numbers_shown : (c : Call) (t e q : List ℕ) (r : Read) → read_seen t e q r (read_or c r) ≡ answer_seen c t e q r
 unfolding exported
-numbers_shown c t e q (Read x) = refl
-numbers_shown c t e q (TooLong n) = refl
-numbers_shown c t e q (HighByte n) = refl
-numbers_shown c t e q (ScopeTooLarge n) = refl
-numbers_shown c t e q (LevelTooLarge n) = refl
-numbers_shown c t e q (TooDeep n) = refl
-numbers_shown c t e q (NoRoomForRows n) = refl
-numbers_shown c t e q (NoRoomForErrors n) = refl
-numbers_shown c t e q (NoRoomForRequests n) = refl
+read_numbers_shown c t e q (Ok x) = refl
+read_numbers_shown c t e q (Err n) = refl
 
-pub read_shown : {c : Call} {t e q : List ℕ} {r : Answer} {x : ReadNumbers} → Meets c t e q r → x ≡ numbered r c.scope c.swallow
-    → seen x.code t e q x.rows x.errors x.requests x.scope x.swallow x.given ≡ exported (outcome c)
-read_shown {c} {t} {e} {q} {r} {x} m h = ap (λ (y : ReadNumbers). shown y t e q) h ∙ (numbers_shown c t e q r ∙ ap exported m.outcome_is)
+pub read_shown : {c : Call} {t e q : List ℕ} {r : Read} → Meets c t e q r → read_seen t e q r (read_or c r) ≡ exported (outcome c)
+read_shown {c} {t} {e} {q} {r} m = read_numbers_shown c t e q r ∙ ap exported m.outcome_is
 
 -- Number text to value ------------------------------------------------------
 
@@ -73,78 +53,53 @@ pub no_type_shown : (t : Result NumberType UnknownType) (e : UnknownType) (n : �
 unfolding exported_value value_in
 no_type_shown t e n s h i = ap (λ (o : Option Base). exported_value (value_in o s)) (sym (ap base_told i) ∙ h)
 
-value_numbers_shown : (v : Result ℕ ValueError) → seen_value (numbered_value v).code (numbered_value v).value ≡ exported_value (value_told v)
+value_numbers_shown : (v : Result ℕ ValueError) → seen_value (code_of (told refusal_number (λ _. 0) v)) (result_unwrap_or v 0) ≡ exported_value (value_told v)
 unfolding exported_value
 value_numbers_shown (Ok n) = refl
-value_numbers_shown (Err NotANumber) = refl
-value_numbers_shown (Err TooLarge) = refl
+value_numbers_shown (Err e) = refl
 
-pub value_shown : (t : Result NumberType UnknownType) (ty : NumberType) (n : ℕ) (s : List ℕ) (v : Result ℕ ValueError) (x : ValueNumbers) → base_told t ≡ base_numbered n → t ≡ Ok ty
-    → value_told v ≡ number_value (base_of ty) s → x ≡ numbered_value v → seen_value x.code x.value ≡ exported_value (value_in (base_numbered n) s)
+pub value_shown : (t : Result NumberType UnknownType) (ty : NumberType) (n : ℕ) (s : List ℕ) (v : Result ℕ ValueError) → base_told t ≡ base_numbered n → t ≡ Ok ty
+    → value_told v ≡ number_value (base_of ty) s → seen_value (code_of (told refusal_number (λ _. 0) v)) (result_unwrap_or v 0) ≡ exported_value (value_in (base_numbered n) s)
 unfolding value_in
-value_shown t ty n s v x h e w g =
-    ap (λ (y : ValueNumbers). seen_value y.code y.value) g
-    ∙ (value_numbers_shown v
-    ∙ (ap exported_value w ∙ ap (λ (o : Option Base). exported_value (value_in o s)) (sym (ap base_told e) ∙ h)))
+value_shown t ty n s v h e w =
+    value_numbers_shown v ∙ (ap exported_value w ∙ ap (λ (o : Option Base). exported_value (value_in o s)) (sym (ap base_told e) ∙ h))
 
 -- The items of a trivia run -------------------------------------------------
 
-abbrev items_seen : ItemNumbers → List ℕ → SeenItems
-items_seen x t = seen_items x.code t x.count x.given
-
-item_numbers_shown : (r : ItemsAnswer) (t : List ℕ) → items_seen (numbered_items r) t ≡ exported_items (listed (items_told r) t)
+pub items_shown : (r : Result ℕ ItemsError) (t : List ℕ)
+    → seen_items (code_of (told items_number items_gives r)) t (result_unwrap_or r 0) (given_of (told items_number items_gives r)) ≡ exported_items (listed (items_told r) t)
 unfolding exported_items
-item_numbers_shown (Count n) t = refl
-item_numbers_shown (too_long n) t = refl
-item_numbers_shown (high_byte n) t = refl
-item_numbers_shown (NoItem n) t = refl
-item_numbers_shown (NoRoom n) t = refl
-
-pub items_shown : (r : ItemsAnswer) (t : List ℕ) (o : Listed) (x : ItemNumbers) → listed (items_told r) t ≡ o → x ≡ numbered_items r
-    → seen_items x.code t x.count x.given ≡ exported_items o
-items_shown r t o x h g = ap (λ (y : ItemNumbers). items_seen y t) g ∙ (item_numbers_shown r t ∙ ap exported_items h)
+items_shown (Ok n) t = refl
+items_shown (Err e) t = refl
 
 -- Walking a row table -------------------------------------------------------
 
-abbrev walk_seen : WalkNumbers → SeenWalk
-walk_seen x = seen_walk x.code x.root x.before x.given
+abbrev walk_seen : Result Subtree NoSubtree → Subtree → SeenWalk
+walk_seen r x = seen_walk (code_of (told (λ _. 13) (λ e. e.0) r)) x.root.0 x.before (given_of (told (λ _. 13) (λ e. e.0) r))
 
-walk_numbers_shown : (r : Walked) → walk_seen (numbered_walk r) ≡ exported_walk (walk_told r)
+pub walk_shown : (r : Result Subtree NoSubtree) → walk_seen r (result_unwrap_or r (record { root = record { 0 = 0 }; before = 0 })) ≡ exported_walk (walk_told r)
 unfolding exported_walk
-walk_numbers_shown (subtree i n) = refl
-walk_numbers_shown (NoSubtree n) = refl
-
-pub walk_shown : (r : Walked) (a : Answered Subtree) (x : WalkNumbers) → walk_told r ≡ a → x ≡ numbered_walk r
-    → seen_walk x.code x.root x.before x.given ≡ exported_walk a
-walk_shown r a x h g = ap (λ (y : WalkNumbers). walk_seen y) g ∙ (walk_numbers_shown r ∙ ap exported_walk h)
+walk_shown (Ok x) = refl
+walk_shown (Err e) = refl
 
 -- Shares of trivia ----------------------------------------------------------
 
-abbrev shares_seen : SharesNumbers → SeenShares
-shares_seen x = seen_shares x.code x.numerator x.denominator x.count x.first x.second x.third x.given
+abbrev shares_seen : Result SharesFound SharesError → SharesFound → SeenShares
+shares_seen r x =
+    seen_shares (code_of (told shares_number shares_gives r)) x.pooled.numerator x.pooled.denominator x.largest.count x.largest.first x.largest.second x.largest.third (given_of (told shares_number shares_gives r))
 
-shares_numbers_shown : (r : SharesAnswer) → shares_seen (numbered_shares r) ≡ exported_shares (shares_told r)
+pub shares_shown : (r : Result SharesFound SharesError)
+    → shares_seen r (result_unwrap_or r (record { pooled = record { numerator = 0; denominator = 0 }; largest = record { count = 0; first = 0; second = 0; third = 0 } })) ≡ exported_shares (shares_told r)
 unfolding exported_shares
-shares_numbers_shown (Found x) = refl
-shares_numbers_shown (TooManyTexts n) = refl
-shares_numbers_shown (WrongText i) = refl
-
-pub shares_shown : (r : SharesAnswer) (a : Answered Shares) (x : SharesNumbers) → shares_told r ≡ a → x ≡ numbered_shares r
-    → seen_shares x.code x.numerator x.denominator x.count x.first x.second x.third x.given ≡ exported_shares a
-shares_shown r a x h g = ap (λ (y : SharesNumbers). shares_seen y) g ∙ (shares_numbers_shown r ∙ ap exported_shares h)
+shares_shown (Ok x) = refl
+shares_shown (Err e) = refl
 
 -- The two words of a text ---------------------------------------------------
 
-abbrev words_seen : WordsNumbers → List ℕ → SeenWords
-words_seen x t = seen_words x.code t x.trivia x.length x.given
+abbrev words_seen : List ℕ → Result TextWords WordsError → TextWords → SeenWords
+words_seen t r x = seen_words (code_of (told words_number words_gives r)) t x.trivia x.length (given_of (told words_number words_gives r))
 
-words_numbers_shown : (r : TextAnswer) (t : List ℕ) → words_seen (numbered_words r) t ≡ exported_words (told_words r t)
+pub words_shown : (t : List ℕ) (r : Result TextWords WordsError) → words_seen t r (result_unwrap_or r (record { trivia = 0; length = 0 })) ≡ exported_words (told_words r t)
 unfolding exported_words
-words_numbers_shown (Words x) t = refl
-words_numbers_shown (no_subtree n) t = refl
-words_numbers_shown (no_room n) t = refl
-words_numbers_shown wrong_text t = refl
-
-pub words_shown : (r : TextAnswer) (t : List ℕ) (o : Told) (x : WordsNumbers) → told_words r t ≡ o → x ≡ numbered_words r
-    → seen_words x.code t x.trivia x.length x.given ≡ exported_words o
-words_shown r t o x h g = ap (λ (y : WordsNumbers). words_seen y t) g ∙ (words_numbers_shown r t ∙ ap exported_words h)
+words_shown t (Ok x) = refl
+words_shown t (Err e) = refl

@@ -3,4 +3,4 @@ use Rattle.vireopatch.proofs.Shown.{read_shown}
 use Rattle.vireopatch.proofs.vireopatch_read.Goals as goal
 
 pub returns : goal.returns
-returns c = read_shown c.read-answer.ensures c.read_numbers_of-n.ensures
+returns c = rw (c.code_of.ensures, c.given_of.ensures, c.unwrap_or-read.ensures) (read_shown c.read-answer.ensures)
