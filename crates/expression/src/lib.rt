@@ -24,6 +24,7 @@ enum Level {
     Factors,
 }
 
+#[inline(always)]
 fn level_operator(s: &[u8], c: Cursor, level: Level, rows: &mut [u32]) -> Read
     requires { Ready 4 s.now c }
     ensures { Leafs (operator_of level) s.now c rows.old rows.new result }
@@ -118,8 +119,9 @@ pub fn expression_term(s: &[u8], c: Cursor, k: Skip, left: usize, rows: &mut [u3
     chain(s, c, k, Level::Factors, left, rows)
 }
 
-// Parts of a level with its operators between them.
+// Parts of a level with its operators between them. Written out in the two functions above, so that neither asks for the level as it runs.
 #[cycle(expression)]
+#[inline(always)]
 fn chain(s: &[u8], c: Cursor, k: Skip, level: Level, left: usize, rows: &mut [u32]) -> Read
     requires ready { Ready 0 s.now c }
     requires skips { Skips trivia s.now c.at.0 c.met k }
@@ -138,6 +140,7 @@ fn chain(s: &[u8], c: Cursor, k: Skip, level: Level, left: usize, rows: &mut [u3
 
 // A term or a factor.
 #[cycle(expression)]
+#[inline(always)]
 fn part(s: &[u8], c: Cursor, k: Skip, level: Level, left: usize, rows: &mut [u32]) -> Read
     requires ready { Ready 0 s.now c }
     requires skips { Skips trivia s.now c.at.0 c.met k }
@@ -151,6 +154,7 @@ fn part(s: &[u8], c: Cursor, k: Skip, level: Level, left: usize, rows: &mut [u32
 
 // An operator and a part.
 #[cycle(expression)]
+#[inline(always)]
 fn next_part(s: &[u8], c: Cursor, level: Level, left: usize, rows: &mut [u32]) -> Read
     requires { Ready 0 s.now c }
     ensures { Reads (operator_of level ▸ part_of level) s.now c left rows.old rows.new result }

@@ -19,8 +19,8 @@ fn block_closes(s: &[u8], at: Pos) -> bool
     ensures { result ≡ false → Clear (closes_at s.now) at.0 (at.0 + 64) }
 {
     let mut found = false;
-    for i in at.0..at.0 + BLOCK {
-        found |= (s[i] == b'*') & (s[i + 1] == b'/');
+    for j in 0..BLOCK {
+        found |= (s[at.0 + j] == b'*') & (s[at.0 + j + 1] == b'/');
     }
     found
 }
@@ -55,8 +55,8 @@ fn block_has(s: &[u8], at: Pos, a: u8, b: u8) -> bool
     ensures { result ≡ false → Clear (either_at a b s.now) at.0 (at.0 + 16) }
 {
     let mut found = false;
-    for i in at.0..at.0 + SHORT {
-        found |= (s[i] == a) | (s[i] == b);
+    for j in 0..SHORT {
+        found |= (s[at.0 + j] == a) | (s[at.0 + j] == b);
     }
     found
 }

@@ -3,7 +3,7 @@
 
 ghost use Rattle.std.specs.Prelude.{◌≡◌, true, false, [], ◌∷◌, ◌+◌, ◌≤◌, ◌<◌, length, drop, get_or, position, nat_le};
 ghost use Rattle.std.proofs.Math.Option.{none};
-ghost use Rattle.reading.specs.Byte.{digit, run, begins};
+ghost use Rattle.reading.specs.Byte.{blank, digit, run, begins};
 ghost use Rattle.reading.specs.Rules.{trivia, multiline_trivia};
 ghost use Rattle.reading.specs.Table.{max_text, first_high};
 ghost use Rattle.reading.specs.Items.{trivia_items};
@@ -115,6 +115,16 @@ fn comment_item(s: &[u8], at: Pos) -> Option<Item>
     None
 }
 
+// The end of the blanks that go on here. Most often a blank stands alone, which the next byte tells.
+fn blanks_end(s: &[u8], at: Pos) -> Pos
+    ensures { result.0 ≡ at.0 + run blank (drop at.0 s.now) }
+{
+    match s.get(at.0) {
+        Some(b' ' | b'\t') => run_end(s, at, Class::Blank, true),
+        _ => at,
+    }
+}
+
 // What starts here. Most bytes stand above the space and start nothing; they are answered first.
 pub fn trivia_item(s: &[u8], at: Pos) -> Option<Item>
     ensures { Starts s.now at.0 result }
@@ -128,10 +138,7 @@ pub fn trivia_item(s: &[u8], at: Pos) -> Option<Item>
         return if b == b'/' { comment_item(s, at) } else { None };
     }
     let (kind, end) = match b {
-        b' ' | b'\t' => (
-            ItemKind::Whitespace,
-            run_end(s, Pos(low + 1), Class::Blank, true),
-        ),
+        b' ' | b'\t' => (ItemKind::Whitespace, blanks_end(s, Pos(low + 1))),
         b'\n' => (ItemKind::Newline, Pos(low + 1)),
         b'\r' if byte_is(s, Pos(low + 1), b'\n') => (ItemKind::Newline, Pos(low + 2)),
         _ => return None,

@@ -25,7 +25,7 @@ returns-in_default-2 c =
 pub returns : goal.returns
 returns c =
     elim c.match-b.branch [
-      | in-32 w ↦ rw w.kind-is (starts_blank _ _ c.if-s-low.false (elim w.in-32.is [ inl e ↦ ap blank e | inr e ↦ ap blank e ]) _ w.run_end.ensures)
+      | in-32 w ↦ rw w.kind-is (starts_blank _ _ c.if-s-low.false (elim w.in-32.is [ inl e ↦ ap blank e | inr e ↦ ap blank e ]) _ w.blanks_end.ensures)
       | in-10 w ↦ rw w.kind-is (starts_feed _ _ c.if-s-low.false w.in-10.is)
       | in-13 w ↦ rw w.kind-is (starts_return _ _ c.if-s-low.false w.in-13.is (sym w.byte_is.ensures) w.if-byte_is.true)
     ]
