@@ -1,5 +1,5 @@
 -- Sequences and alternatives of readers with the state: the order of statement(), items, blocks.
-use mathlib.Core.Path.{◌≡◌, sym, subst}
+use mathlib.Core.Path.{◌≡◌, ap, sym, subst}
 use mathlib.Core.Bool.{true, false}
 use mathlib.Core.List.{List, [], ◌∷◌}
 use Prim.Native.Nat.{ℕ, ◌+◌, ◌-◌, ◌≤◌, ◌<◌}
@@ -9,9 +9,8 @@ use Rattle.reading.specs.Kind.{blockᵏ, loopᵏ, ifᵏ, segmentᵏ, testᵏ}
 use Rattle.reading.specs.Grammar.{Parser, ◌▸◌, ◌or◌, many0}
 use Rattle.reading.specs.Rules.{opt, directive, expression, multiline_trivia, block, block_item, braces, label, macro_definition, import', statement, error_in_block}
 use Rattle.reading.specs.Rules.{instruction, variable_definition, const_definition, pc_definition, config_definition, macro_invocation, data', segment, loop', if', align, text, file, test, assert, trace}
-use Rattle.reading.specs.Table.{row_width}
 use Rattle.reading.proofs.Moves.{moves}
-use Rattle.table.specs.Words.{pushed, row_record}
+use Rattle.lexis.specs.Around.{Finished}
 use Rattle.cursor.specs.Text.{cursor}
 use Rattle.cursor.specs.declared.Cursor.{Cursor}
 use Rattle.state.specs.declared.State.{State as Counts}
@@ -167,13 +166,13 @@ module _ {s : List ℕ} {c : Cursor} {st : Counts} {left : ℕ} {t t₁ e e₁ q
         unfolding block mark_of
         block_end_out h = block_end block_item blockᵏ 0 (a.does left q) d x z some b (d.at.0 - 1) (omega arith) g y z₂ shut h
 
-        pub block_whole : (h : Cursor) (w : Counts) → r₃ ≡ Ok (h, w) → c.count.0 ≤ h.count.0 → {f : List ℕ}
-            → f ≡ pushed row_width t₃ h.count.0 (row_record blockᵏ (h.count.0 + 1 - c.count.0) c.at.0 (d.at.0 - 1) h.at.0 0)
-            → Does block s c st left (tables t e q) (tables f e₃ T₂.requests) (Ok (cursor h.at.0 (h.count.0 + 1) false, w))
+        pub block_whole : (h : Cursor) (w : Counts) → r₃ ≡ Ok (h, w) → {f : List ℕ} {v : Cursor} → Finished blockᵏ 0 c (d.at.0 - 1) h t₃ f v
+            → Does block s c st left (tables t e q) (tables f e₃ T₂.requests) (Ok (record { at = v.at; count = v.count; met = false }, w))
         unfolding block mark_of
-        block_whole h w z₃ grown is =
-            block_got block_item blockᵏ 0 (a.does left q) d x z some b (d.at.0 - 1) (omega arith) g y z₂ shut h w z₃
-            (h.count.0 + 1 - c.count.0) (omega arith) is
+        block_whole h w z₃ {f} row =
+            subst (Does block s c st left (tables t e q) (tables f e₃ T₂.requests))
+            (sym (ap {B = Done} (λ (v : Cursor). Ok (record { at = v.at; count = v.count; met = false }, w)) row.is))
+            (block_got block_item blockᵏ 0 (a.does left q) d x z some b (d.at.0 - 1) (omega arith) g y z₂ shut h w z₃ row.size row.counts row.table)
 
 module _ {s : List ℕ} {d : Cursor} {x : Counts} (fit : Fit 0 s d x) {left : ℕ} {T T₁ : Tables} {r : Done} (b : Does (many0 block_item) s d x left T T₁ r)
     (g : Cursor) (y : Counts) (z : r ≡ Ok (g, y)) where

@@ -9,10 +9,12 @@ ghost use Rattle.statement.specs.Shapes.{body_of, closing, Headed, Ends};
 ghost use Rattle.statement.specs.Heads.{from_macro, from_loop, from_import};
 ghost use Rattle.head.specs.Heads.{directive_of};
 
-use crate::{Body, brace, quiet, row, start, text};
+use crate::lift::lifted;
+use crate::{Body, brace, quiet, row, text};
 use cursor::{Cursor, Skip, Stop};
+use lexis::mark;
 use state::{Done, State};
-use table::{Kind, Pos, RowIndex};
+use table::{Kind, Pos};
 
 // A statement or error text.
 #[cycle(statement)]
@@ -26,7 +28,7 @@ fn item(
     requests: &mut [u32],
 ) -> Done
     requires fit { Fit 0 s.now c st }
-    requires le_at { 1 ≤ c.at.0 }
+    requires behind { 1 ≤ c.at.0 }
     ensures { Does block_item s.now c st left (tables rows.old errors.old requests.old) (tables rows.new errors.new requests.new) result }
 {
     let x = match statement(s, c, st, left, rows, errors, requests) {
@@ -47,7 +49,7 @@ fn items(
     requests: &mut [u32],
 ) -> Done
     requires fit { Fit 0 s.now c st }
-    requires le_at { 1 ≤ c.at.0 }
+    requires behind { 1 ≤ c.at.0 }
     ensures { Does (many0 block_item) s.now c st left (tables rows.old errors.old requests.old) (tables rows.new errors.new requests.new) result }
 {
     let mut next = c;
@@ -88,23 +90,8 @@ fn braced(
     let low = Pos(d.at.0 - 1);
     let (e, y) = items(s, d, x, left - 1, rows, errors, requests)?;
     let (j, z) = brace::close(s, e, y, c.at, low, rows, errors)?;
-    let n = j.count.0;
-    table::push_row(
-        rows,
-        j.count,
-        Kind::Block,
-        n + 1 - c.count.0,
-        c.at,
-        low,
-        j.at,
-        0,
-    );
-    let end = Cursor {
-        at: j.at,
-        count: RowIndex(n + 1),
-        met: false,
-    };
-    Ok((end, z))
+    let end = mark::around(c, low, j, Kind::Block, 0, rows);
+    Ok((Cursor { met: false, ..end }, z))
 }
 
 #[cycle(statement)]
@@ -159,7 +146,9 @@ fn other(
     requires { Fit 0 s.now c st }
     ensures { Does (directive "else" ▸ block) s.now c st left (tables rows.old errors.old requests.old) (tables rows.new errors.new requests.new) result }
 {
-    let (d, x) = start::else_head(s, c, st, rows, errors)?;
+    let k = trivia::multiline_trivia(s, c.at, false);
+    let read = head::directive::else_head(s, Cursor { met: false, ..c }, k, rows);
+    let (d, x) = lifted(s, st, read, errors)?;
     block(s, d, x, left, rows, errors, requests)
 }
 
@@ -250,7 +239,9 @@ fn directive(
     requires skips { Skips multiline_trivia s.now c.at.0 false k × (1 ≤ length word.now) }
     ensures { Does (closing scope (kind_number kind) (directive_of word.now) (expression ▸ body_of b)) s.now c st left (tables rows.old errors.old requests.old) (tables rows.new errors.new requests.new) result }
 {
-    let h = start::directive_head(s, c, k, word, st, left, rows, errors);
+    let start = Cursor { met: false, ..c };
+    let read = head::directive::directive_expression(s, start, k, word, left, rows);
+    let h = lifted(s, st, read, errors);
     rest(s, c, k, h, b, kind, scope, left, rows, errors, requests)
 }
 
@@ -288,7 +279,8 @@ fn label(
     requires skips { Skips multiline_trivia s.now c.at.0 false k }
     ensures { Does label s.now c st left (tables rows.old errors.old requests.old) (tables rows.new errors.new requests.new) result }
 {
-    let h = start::label_head(s, c, k, st, rows, errors);
+    let read = head::definition::label_head(s, Cursor { met: false, ..c }, k, rows);
+    let h = lifted(s, st, read, errors);
     rest(
         s,
         c,
@@ -319,7 +311,8 @@ fn macro_of(
     requires skips { Skips multiline_trivia s.now c.at.0 false k }
     ensures { Does macro_definition s.now c st left (tables rows.old errors.old requests.old) (tables rows.new errors.new requests.new) result }
 {
-    let h = start::macro_head(s, c, k, st, rows, errors);
+    let read = head::definition::macro_head(s, Cursor { met: false, ..c }, k, rows);
+    let h = lifted(s, st, read, errors);
     rest(
         s,
         c,
@@ -350,9 +343,11 @@ fn import(
     requires skips { Skips multiline_trivia s.now c.at.0 false k }
     ensures { Does import' s.now c st left (tables rows.old errors.old requests.old) (tables rows.new errors.new requests.new) result }
 {
-    let (d, x) = start::import_head(s, c, k, st, rows, errors)?;
+    let read = head::import::import_head(s, Cursor { met: false, ..c }, k, rows);
+    let (d, x) = lifted(s, st, read, errors)?;
     let quote = trivia::trivia(s, d.at, false);
-    let (e, y) = start::import_file(s, d, x, rows, errors)?;
+    let read = head::import::import_file(s, Cursor { met: false, ..d }, rows);
+    let (e, y) = lifted(s, x, read, errors)?;
     let high = Pos(e.at.0 - 1);
     let (j, z) = maybe(s, e, y, left, rows, errors, requests)?;
     row::import(c, k, j, z, quote.at, high, rows, requests)
@@ -452,7 +447,8 @@ fn third(
         Err(Stop::Miss(st)) => st,
         done => return done,
     };
-    let st = match quiet::align(s, c, k, st, left, rows, errors) {
+    let read = head::directive::align(s, Cursor { met: false, ..c }, k, left, rows);
+    let st = match lifted(s, st, read, errors) {
         Err(Stop::Miss(st)) => st,
         done => return done,
     };
