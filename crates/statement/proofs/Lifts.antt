@@ -96,12 +96,12 @@ module _ {s : List ℕ} {c : Cursor} {st : Counts} (h : Fit 0 s c st) where
 pub spans : {s : List ℕ} {c : Cursor} {k : Skip} → Skips multiline_trivia s c.at.0 false k → {d : Cursor} {x : Counts} → Fit 0 s d x → c.count.0 ≤ d.count.0
     → Spans c k.at.0 d × (x.scope + 1 < 2 ^ 32)
 spans skip {d} {x} b grown = (
-      record {
-        grown = grown;
-        few = omega (arith, b.small, b.within, b.few);
-        start = omega (arith, b.small, skip.on, skip.within);
-        body = omega (arith, b.small, skip.within);
-        end = omega (arith, b.small, b.within);
-      },
-      omega (arith, b.small, b.within, b.scopes),
-    )
+  record {
+    grown = grown;
+    few = omega (arith, b.small, b.within, b.few);
+    start = omega (arith, b.small, skip.on, skip.within);
+    body = omega (arith, b.small, skip.within);
+    end = omega (arith, b.small, b.within);
+  },
+  omega (arith, b.small, b.within, b.scopes),
+)

@@ -1,5 +1,5 @@
 -- What the shared parts of statements do: a quiet reader's answer with the state, the row around a statement, what stands behind its head.
-use Rattle.std.specs.Prelude.{Bool, true, false, List, ◌≡◌, ℕ, ◌+◌, ◌-◌, ◌^◌, ◌≤◌, ◌<◌, Ok, Err}
+use Rattle.std.specs.Prelude.{Bool, true, false, List, ◌≡◌, ℕ, ◌+◌, ◌-◌, ◌≤◌, Ok, Err}
 use Rattle.reading.specs.Byte.{is}
 use Rattle.reading.specs.Kind.{charᵏ, errorᵏ, importᵏ}
 use Rattle.reading.specs.Grammar.{Rows, State, Input, ok, run1, one, Parser, ◌▸◌, leaf, over, scoped, complain, error_at, first_low, parse}

@@ -30,7 +30,7 @@ pub fn mark(
 }
 
 // The end of a block whose opening brace stands at `low`, behind trivia from `tlow`: the closing brace, or a report before the trivia and a
-// copy of the opening one's row.
+// copy of the opening one's row. It is not `expected` of that brace, since the row must be pushed before reading goes on.
 pub fn close(
     s: &[u8],
     c: Cursor,
@@ -49,7 +49,16 @@ pub fn close(
         Err(Stop::Miss(x)) => x,
         done => return done,
     };
-    table::push_row(rows, c.count, Kind::Char, 1, tlow, low, Pos(low.0 + 1), b'}' as usize);
+    table::push_row(
+        rows,
+        c.count,
+        Kind::Char,
+        1,
+        tlow,
+        low,
+        Pos(low.0 + 1),
+        b'}' as usize,
+    );
     let y = state::report(x, ErrorCode::ExpectedClosingDelimiter, c.at, c.at, errors);
     let end = Cursor {
         count: RowIndex(c.count.0 + 1),

@@ -18,7 +18,7 @@ use table::Kind;
 
 // What should stand at `c` has answered `done`. If it is missing, that is reported and reading goes on there.
 fn expected(c: Cursor, done: Done, code: ErrorCode, errors: &mut [u32]) -> Done
-    requires in_bounds { c.at.0 < 2 ^ 32 }
+    requires words { c.at.0 < 2 ^ 32 }
     requires room { (x : _) → done ≡ Err (Miss x) → x.errors < 2 ^ 32 }
     ensures { Expected (code_number code) c done errors.old errors.new result }
 {

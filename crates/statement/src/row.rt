@@ -49,7 +49,7 @@ pub fn import(
     requests: &mut [u32],
 ) -> Done
     requires spans { Spans c k.at.0 d × (st.scope + 1 < 2 ^ 32) }
-    requires in_bounds { (low.0 < 2 ^ 32) × (high.0 < 2 ^ 32) × (st.requests < 2 ^ 32) }
+    requires words { (low.0 < 2 ^ 32) × (high.0 < 2 ^ 32) × (st.requests < 2 ^ 32) }
     ensures { Imported low.0 high.0 c k d st rows.old rows.new requests.old requests.new result }
 {
     let (e, x) = close(c, k, d, st, Kind::Import, true, rows)?;

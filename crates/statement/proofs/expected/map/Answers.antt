@@ -11,8 +11,8 @@ lifted-done-requires c = fit_lifts c.requires
 pub expected-requires-clause-room : goal.expected-requires-clause-room
 expected-requires-clause-room c =
     λ x z.
-        let k = fit_errors (tried_fit missing_calm.0 c.requires c.lifted-done.ensures c.config_map-read.ensures x z) in
-        omega (arith, c.requires.small, c.requires.within, k)
+    let k = fit_errors (tried_fit missing_calm.0 c.requires c.lifted-done.ensures c.config_map-read.ensures x z) in
+    omega (arith, c.requires.small, c.requires.within, k)
 
 pub returns : goal.returns
 returns c = tells_expected (tried missing_calm.0 c.requires c.lifted-done.ensures c.config_map-read.ensures) 4 c.expected.ensures

@@ -11,8 +11,8 @@ lifted-done-requires c = fit_lifts c.requires.fit
 pub expected-requires-clause-room : goal.expected-requires-clause-room
 expected-requires-clause-room c =
     λ x z.
-        let k = fit_errors (tried_fit missing_calm.1 c.requires.fit c.lifted-done.ensures c.expression_arg_list-read.ensures x z) in
-        omega (arith, c.requires.fit.small, c.requires.fit.within, k)
+    let k = fit_errors (tried_fit missing_calm.1 c.requires.fit c.lifted-done.ensures c.expression_arg_list-read.ensures x z) in
+    omega (arith, c.requires.fit.small, c.requires.fit.within, k)
 
 pub returns : goal.returns
 returns c = tells_expected (tried missing_calm.1 c.requires.fit c.lifted-done.ensures c.expression_arg_list-read.ensures) 3 c.expected.ensures

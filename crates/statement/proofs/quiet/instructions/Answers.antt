@@ -2,7 +2,7 @@ use mathlib.Core.Path.{ap, ◌∙◌}
 use Rattle.std.specs.Prelude.{Err}
 use native.Mathlib.Omega.{arith}
 use Rattle.statement.proofs.Lifts.{fit_lifts}
-use Rattle.statement.proofs.Quiets.{tried, tried_fit, tried_first, tried_next}
+use Rattle.statement.proofs.Quiets.{tried_fit, tried_first, tried_next}
 use Rattle.statement.proofs.Tests.{statement_calm}
 use Rattle.statement.proofs.quiet.instructions.Goals as goal
 

@@ -38,7 +38,7 @@ pub braced-overflow_sub-low : goal.braced-overflow_sub-low
 braced-overflow_sub-low t c = let ba = brace_at c.in_ok-d.ensures c.requires.fit c.in_ok-d.d c.in_ok-d.x refl in omega (arith, ba)
 
 pub braced-items-requires : goal.braced-items-requires
-braced-items-requires t c = 
+braced-items-requires t c =
     let bf = brace_fit c.in_ok-d.ensures c.requires.fit c.in_ok-d.d c.in_ok-d.x refl in
     let ba = brace_at c.in_ok-d.ensures c.requires.fit c.in_ok-d.d c.in_ok-d.x refl in
     (omega (arith, c.if-left-eq0.false), (bf, omega (arith, ba)))
@@ -52,20 +52,20 @@ pub braced-close-requires-clause-fit : goal.braced-close-requires-clause-fit
 braced-close-requires-clause-fit t c = items_fit (brace_fit c.in_ok-d.ensures c.requires.fit c.in_ok-d.d c.in_ok-d.x refl) c.in_ok-e.ensures c.in_ok-e.e c.in_ok-e.y refl
 
 pub braced-close-requires-clause-in_text : goal.braced-close-requires-clause-in_text
-braced-close-requires-clause-in_text t c = 
+braced-close-requires-clause-in_text t c =
     let bf = brace_fit c.in_ok-d.ensures c.requires.fit c.in_ok-d.d c.in_ok-d.x refl in
     let ba = brace_at c.in_ok-d.ensures c.requires.fit c.in_ok-d.d c.in_ok-d.x refl in
     (c.requires.fit.within, omega (arith, bf.within, ba))
 
 pub braced-returns-in_err-j : goal.braced-returns-in_err-j
-braced-returns-in_err-j t c = 
+braced-returns-in_err-j t c =
     let p = err_from_is_err_and c.from_residual-in_err-j.result c.from_residual-in_err-j.ensures.1 in
     let ba = brace_at c.in_ok-d.ensures c.requires.fit c.in_ok-d.d c.in_ok-d.x refl in
     rw (p.1, p.2) (block_end_out c.in_ok-d.ensures c.in_ok-d.d c.in_ok-d.x refl c.if-left-eq0.false c.in_ok-e.ensures
     (omega (arith, ba)) c.in_ok-e.e c.in_ok-e.y refl c.in_err-j.ensures refl)
 
 pub braced-around-end-requires-clause-spans : goal.braced-around-end-requires-clause-spans
-braced-around-end-requires-clause-spans t c = 
+braced-around-end-requires-clause-spans t c =
     let bf = brace_fit c.in_ok-d.ensures c.requires.fit c.in_ok-d.d c.in_ok-d.x refl in
     let ba = brace_at c.in_ok-d.ensures c.requires.fit c.in_ok-d.d c.in_ok-d.x refl in
     let bg = brace_grown c.in_ok-d.ensures c.requires.fit c.in_ok-d.d c.in_ok-d.x refl in
@@ -81,7 +81,7 @@ braced-around-end-requires-clause-spans t c =
     }
 
 pub braced-returns : goal.braced-returns
-braced-returns t c = 
+braced-returns t c =
     let ba = brace_at c.in_ok-d.ensures c.requires.fit c.in_ok-d.d c.in_ok-d.x refl in
     block_whole c.in_ok-d.ensures c.in_ok-d.d c.in_ok-d.x refl c.if-left-eq0.false c.in_ok-e.ensures (omega (arith, ba)) c.in_ok-e.e c.in_ok-e.y
     refl c.in_ok-j.ensures c.in_ok-j.j c.in_ok-j.z refl c.around-end.ensures
@@ -123,12 +123,12 @@ pub directive-lifted-h-requires : goal.directive-lifted-h-requires
 directive-lifted-h-requires t c = fit_lifts c.requires.fit
 
 pub directive-rest-requires : goal.directive-rest-requires
-directive-rest-requires t c = 
+directive-rest-requires t c =
     let h = lift (directive_quiet _) c.requires.fit.within c.lifted-h.ensures c.directive_expression-read.ensures in
     (omega arith, (c.requires.skips.0, directive_headed _ c.requires.skips.1 c.requires.fit (h.does [])))
 
 pub directive-returns : goal.directive-returns
-directive-returns t c = 
+directive-returns t c =
     let h = lift (directive_quiet _) c.requires.fit.within c.lifted-h.ensures c.directive_expression-read.ensures in
     directive_ends c.requires.skips.0 _ (h.does _) c.rest.ensures
 
@@ -180,31 +180,31 @@ pub import-lifted-requires : goal.import-lifted-requires
 import-lifted-requires t c = fit_lifts c.requires.fit
 
 pub import-returns-in_err-d : goal.import-returns-in_err-d
-import-returns-in_err-d t c = 
+import-returns-in_err-d t c =
     let p = err_from_is_err_and c.from_residual.result c.from_residual.ensures.1 in
     let h1 = lift_flat head_quiet.4 c.requires.fit.within c.in_err-d.ensures c.import_head-read.ensures.reads in
     rw (p.1, p.2) (import_head_out (h1.does _ _) refl)
 
 pub import-trivia-quote-requires : goal.import-trivia-quote-requires
-import-trivia-quote-requires t c = 
+import-trivia-quote-requires t c =
     let h1 = lift_flat head_quiet.4 c.requires.fit.within c.in_ok-d.ensures c.import_head-read.ensures.reads in
     let f1 = fit_then (h1.does 0 []) c.requires.fit import_paid c.in_ok-d.d c.in_ok-d.x refl in
     f1.within
 
 pub import-import_file-read-requires : goal.import-import_file-read-requires
-import-import_file-read-requires t c = 
+import-import_file-read-requires t c =
     let h1 = lift_flat head_quiet.4 c.requires.fit.within c.in_ok-d.ensures c.import_head-read.ensures.reads in
     let f1 = fit_then (h1.does 0 []) c.requires.fit import_paid c.in_ok-d.d c.in_ok-d.x refl in
     fit_ready f1
 
 pub import-lifted-requires-2 : goal.import-lifted-requires-2
-import-lifted-requires-2 t c = 
+import-lifted-requires-2 t c =
     let h1 = lift_flat head_quiet.4 c.requires.fit.within c.in_ok-d.ensures c.import_head-read.ensures.reads in
     let f1 = fit_then (h1.does 0 []) c.requires.fit import_paid c.in_ok-d.d c.in_ok-d.x refl in
     fit_lifts f1
 
 pub import-returns-in_err-e : goal.import-returns-in_err-e
-import-returns-in_err-e t c = 
+import-returns-in_err-e t c =
     let p = err_from_is_err_and c.from_residual-in_err-e.result c.from_residual-in_err-e.ensures.1 in
     let h1 = lift_flat head_quiet.4 c.requires.fit.within c.in_ok-d.ensures c.import_head-read.ensures.reads in
     let f1 = fit_then (h1.does 0 []) c.requires.fit import_paid c.in_ok-d.d c.in_ok-d.x refl in
@@ -212,7 +212,7 @@ import-returns-in_err-e t c =
     rw (p.1, p.2) (import_name_out (h1.does _ _) c.in_ok-d.d c.in_ok-d.x refl (h2.does _ _) refl)
 
 pub import-overflow_sub-high : goal.import-overflow_sub-high
-import-overflow_sub-high t c = 
+import-overflow_sub-high t c =
     let h1 = lift_flat head_quiet.4 c.requires.fit.within c.in_ok-d.ensures c.import_head-read.ensures.reads in
     let f1 = fit_then (h1.does 0 []) c.requires.fit import_paid c.in_ok-d.d c.in_ok-d.x refl in
     let h2 = lift_flat head_quiet.5 f1.within c.in_ok-e.ensures c.import_file-read.ensures.reads in
@@ -220,7 +220,7 @@ import-overflow_sub-high t c =
     omega (arith, m2)
 
 pub import-maybe-requires : goal.import-maybe-requires
-import-maybe-requires t c = 
+import-maybe-requires t c =
     let h1 = lift_flat head_quiet.4 c.requires.fit.within c.in_ok-d.ensures c.import_head-read.ensures.reads in
     let f1 = fit_then (h1.does 0 []) c.requires.fit import_paid c.in_ok-d.d c.in_ok-d.x refl in
     let h2 = lift_flat head_quiet.5 f1.within c.in_ok-e.ensures c.import_file-read.ensures.reads in
@@ -228,7 +228,7 @@ import-maybe-requires t c =
     (omega arith, f2)
 
 pub import-returns-in_err-j : goal.import-returns-in_err-j
-import-returns-in_err-j t c = 
+import-returns-in_err-j t c =
     let p = err_from_is_err_and c.from_residual-in_err-j.result c.from_residual-in_err-j.ensures.1 in
     let h1 = lift_flat head_quiet.4 c.requires.fit.within c.in_ok-d.ensures c.import_head-read.ensures.reads in
     let f1 = fit_then (h1.does 0 []) c.requires.fit import_paid c.in_ok-d.d c.in_ok-d.x refl in
@@ -237,7 +237,7 @@ import-returns-in_err-j t c =
     refl c.in_err-j.ensures refl)
 
 pub import-import-requires-clause-spans : goal.import-import-requires-clause-spans
-import-import-requires-clause-spans t c = 
+import-import-requires-clause-spans t c =
     let h1 = lift_flat head_quiet.4 c.requires.fit.within c.in_ok-d.ensures c.import_head-read.ensures.reads in
     let f1 = fit_then (h1.does 0 []) c.requires.fit import_paid c.in_ok-d.d c.in_ok-d.x refl in
     let h2 = lift_flat head_quiet.5 f1.within c.in_ok-e.ensures c.import_file-read.ensures.reads in
@@ -247,8 +247,8 @@ import-import-requires-clause-spans t c =
     let g3 = grown_then c.in_ok-j.ensures f2 maybe_paid c.in_ok-j.j c.in_ok-j.z refl in
     spans c.requires.skips (fit_then c.in_ok-j.ensures f2 maybe_paid c.in_ok-j.j c.in_ok-j.z refl) (omega (arith, g1, g2, g3))
 
-pub import-import-requires-clause-in_bounds : goal.import-import-requires-clause-in_bounds
-import-import-requires-clause-in_bounds t c = 
+pub import-import-requires-clause-words : goal.import-import-requires-clause-words
+import-import-requires-clause-words t c =
     let h1 = lift_flat head_quiet.4 c.requires.fit.within c.in_ok-d.ensures c.import_head-read.ensures.reads in
     let f1 = fit_then (h1.does 0 []) c.requires.fit import_paid c.in_ok-d.d c.in_ok-d.x refl in
     let h2 = lift_flat head_quiet.5 f1.within c.in_ok-e.ensures c.import_file-read.ensures.reads in
@@ -257,7 +257,7 @@ import-import-requires-clause-in_bounds t c =
     omega (arith, f3.small, c.trivia-quote.ensures.within, f2.within, f3.within, f3.requests)
 
 pub import-returns : goal.import-returns
-import-returns t c = 
+import-returns t c =
     let h1 = lift_flat head_quiet.4 c.requires.fit.within c.in_ok-d.ensures c.import_head-read.ensures.reads in
     let f1 = fit_then (h1.does 0 []) c.requires.fit import_paid c.in_ok-d.d c.in_ok-d.x refl in
     let h2 = lift_flat head_quiet.5 f1.within c.in_ok-e.ensures c.import_file-read.ensures.reads in
@@ -306,12 +306,12 @@ pub label-lifted-h-requires : goal.label-lifted-h-requires
 label-lifted-h-requires t c = fit_lifts c.requires.fit
 
 pub label-rest-requires : goal.label-rest-requires
-label-rest-requires t c = 
+label-rest-requires t c =
     let h = lift_flat head_quiet.0 c.requires.fit.within c.lifted-h.ensures c.label_head-read.ensures.reads in
     (omega arith, (c.requires.skips, headed c.requires.fit label_head label_paid.0 label_paid.1 (h.does 0 [])))
 
 pub label-returns : goal.label-returns
-label-returns t c = 
+label-returns t c =
     let h = lift_flat head_quiet.0 c.requires.fit.within c.lifted-h.ensures c.label_head-read.ensures.reads in
     label_ends c.requires.skips (h.does _ _) c.rest.ensures
 
@@ -319,12 +319,12 @@ pub macro_of-lifted-h-requires : goal.macro_of-lifted-h-requires
 macro_of-lifted-h-requires t c = fit_lifts c.requires.fit
 
 pub macro_of-rest-requires : goal.macro_of-rest-requires
-macro_of-rest-requires t c = 
+macro_of-rest-requires t c =
     let h = lift_flat head_quiet.2 c.requires.fit.within c.lifted-h.ensures c.macro_head-read.ensures.reads in
     (omega arith, (c.requires.skips, headed c.requires.fit macro_head macro_paid.0 macro_paid.1 (h.does 0 [])))
 
 pub macro_of-returns : goal.macro_of-returns
-macro_of-returns t c = 
+macro_of-returns t c =
     let h = lift_flat head_quiet.2 c.requires.fit.within c.lifted-h.ensures c.macro_head-read.ensures.reads in
     macro_ends c.requires.skips (h.does _ _) c.rest.ensures
 
@@ -341,18 +341,18 @@ pub other-lifted-requires : goal.other-lifted-requires
 other-lifted-requires t c = fit_lifts c.requires
 
 pub other-returns-in_err-d : goal.other-returns-in_err-d
-other-returns-in_err-d t c = 
+other-returns-in_err-d t c =
     let p = err_from_is_err_and c.from_residual.result c.from_residual.ensures.1 in
     let h = lift_flat head_quiet.6 c.requires.within c.in_err-d.ensures c.else_head-read.ensures.reads in
     rw (p.1, p.2) (does_out (h.does _ _) refl)
 
 pub other-block-requires : goal.other-block-requires
-other-block-requires t c = 
+other-block-requires t c =
     let h = lift_flat head_quiet.6 c.requires.within c.in_ok-d.ensures c.else_head-read.ensures.reads in
     (omega arith, fit_then (h.does 0 []) c.requires else_paid c.in_ok-d.d c.in_ok-d.x refl)
 
 pub other-returns : goal.other-returns
-other-returns t c = 
+other-returns t c =
     let h = lift_flat head_quiet.6 c.requires.within c.in_ok-d.ensures c.else_head-read.ensures.reads in
     does_then (h.does _ _) c.in_ok-d.d c.in_ok-d.x refl c.block.ensures
 
@@ -492,34 +492,33 @@ pub third-returns-in_default-directive-2 : goal.third-returns-in_default-directi
 third-returns-in_default-directive-2 t c = third_is (does_next (loop_is c.directive.ensures) c.in-Err-Miss.st (c.in-Err-Miss.is ∙ ap Err c.in-Err-Miss.field-0-is) (does_first (if_is c.directive-2.ensures) (λ m e. grind arith)))
 
 pub third-lifted-requires : goal.third-lifted-requires
-third-lifted-requires t c = 
+third-lifted-requires t c =
     let h1 = fit_next (loop_is c.directive.ensures) c.requires.fit third_sober.0 c.in-Err-Miss.st (c.in-Err-Miss.is ∙ ap Err c.in-Err-Miss.field-0-is) in
     fit_lifts (fit_next (if_is c.directive-2.ensures) h1 third_sober.1 c.in-Err-Miss-directive.st (c.in-Err-Miss-directive.is ∙ ap Err c.in-Err-Miss-directive.field-0-is))
 
 pub third-returns-in_default-lifted : goal.third-returns-in_default-lifted
-third-returns-in_default-lifted t c = 
+third-returns-in_default-lifted t c =
     let h1 = fit_next (loop_is c.directive.ensures) c.requires.fit third_sober.0 c.in-Err-Miss.st (c.in-Err-Miss.is ∙ ap Err c.in-Err-Miss.field-0-is) in
     let h2 = fit_next (if_is c.directive-2.ensures) h1 third_sober.1 c.in-Err-Miss-directive.st (c.in-Err-Miss-directive.is ∙ ap Err c.in-Err-Miss-directive.field-0-is) in
     third_is (does_next (loop_is c.directive.ensures) c.in-Err-Miss.st (c.in-Err-Miss.is ∙ ap Err c.in-Err-Miss.field-0-is)
     (does_next (if_is c.directive-2.ensures) c.in-Err-Miss-directive.st (c.in-Err-Miss-directive.is ∙ ap Err c.in-Err-Miss-directive.field-0-is) (does_first ((tried statement_calm.5 h2 c.in_default-lifted.ensures c.align-read.ensures).does _) (λ m e. grind arith))))
 
 pub third-returns-in_default-lifted-2 : goal.third-returns-in_default-lifted-2
-third-returns-in_default-lifted-2 t c = 
+third-returns-in_default-lifted-2 t c =
     let h1 = fit_next (loop_is c.directive.ensures) c.requires.fit third_sober.0 c.in-Err-Miss.st (c.in-Err-Miss.is ∙ ap Err c.in-Err-Miss.field-0-is) in
     let h2 = fit_next (if_is c.directive-2.ensures) h1 third_sober.1 c.in-Err-Miss-directive.st (c.in-Err-Miss-directive.is ∙ ap Err c.in-Err-Miss-directive.field-0-is) in
     third_is (does_next (loop_is c.directive.ensures) c.in-Err-Miss.st (c.in-Err-Miss.is ∙ ap Err c.in-Err-Miss.field-0-is)
     (does_next (if_is c.directive-2.ensures) c.in-Err-Miss-directive.st (c.in-Err-Miss-directive.is ∙ ap Err c.in-Err-Miss-directive.field-0-is) (does_first ((tried statement_calm.5 h2 c.lifted.ensures c.align-read.ensures).does _) (λ m e. grind arith))))
 
 pub third-fourth-requires : goal.third-fourth-requires
-third-fourth-requires t c = 
+third-fourth-requires t c =
     let h1 = fit_next (loop_is c.directive.ensures) c.requires.fit third_sober.0 c.in-Err-Miss.st (c.in-Err-Miss.is ∙ ap Err c.in-Err-Miss.field-0-is) in
     let h2 = fit_next (if_is c.directive-2.ensures) h1 third_sober.1 c.in-Err-Miss-directive.st (c.in-Err-Miss-directive.is ∙ ap Err c.in-Err-Miss-directive.field-0-is) in
     (omega arith, (tried_fit statement_calm.5 h2 c.lifted.ensures c.align-read.ensures c.in-Err-Miss-lifted.st (c.in-Err-Miss-lifted.is ∙ ap Err c.in-Err-Miss-lifted.field-0-is), c.requires.skips))
 
 pub third-returns : goal.third-returns
-third-returns t c = 
+third-returns t c =
     let h1 = fit_next (loop_is c.directive.ensures) c.requires.fit third_sober.0 c.in-Err-Miss.st (c.in-Err-Miss.is ∙ ap Err c.in-Err-Miss.field-0-is) in
     let h2 = fit_next (if_is c.directive-2.ensures) h1 third_sober.1 c.in-Err-Miss-directive.st (c.in-Err-Miss-directive.is ∙ ap Err c.in-Err-Miss-directive.field-0-is) in
     third_is (does_next (loop_is c.directive.ensures) c.in-Err-Miss.st (c.in-Err-Miss.is ∙ ap Err c.in-Err-Miss.field-0-is)
     (does_next (if_is c.directive-2.ensures) c.in-Err-Miss-directive.st (c.in-Err-Miss-directive.is ∙ ap Err c.in-Err-Miss-directive.field-0-is) (does_next ((tried statement_calm.5 h2 c.lifted.ensures c.align-read.ensures).does _) c.in-Err-Miss-lifted.st (c.in-Err-Miss-lifted.is ∙ ap Err c.in-Err-Miss-lifted.field-0-is) c.fourth.ensures)))
-
