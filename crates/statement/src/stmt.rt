@@ -16,6 +16,50 @@ use lexis::mark;
 use state::{Done, State};
 use table::{Kind, Pos};
 
+// What stands behind a statement's head, the kind of the row around it all, and whether that row takes a scope number.
+#[derive(Clone, Copy)]
+struct Form {
+    body: Body,
+    kind: Kind,
+    scope: bool,
+}
+
+const LABEL: Form = Form {
+    body: Body::Maybe,
+    kind: Kind::Label,
+    scope: false,
+};
+
+const MACRO: Form = Form {
+    body: Body::Block,
+    kind: Kind::MacroDefinition,
+    scope: false,
+};
+
+const SEGMENT: Form = Form {
+    body: Body::Maybe,
+    kind: Kind::Segment,
+    scope: false,
+};
+
+const LOOP: Form = Form {
+    body: Body::Block,
+    kind: Kind::Loop,
+    scope: true,
+};
+
+const IF: Form = Form {
+    body: Body::Branches,
+    kind: Kind::If,
+    scope: false,
+};
+
+const TEST: Form = Form {
+    body: Body::Block,
+    kind: Kind::Test,
+    scope: false,
+};
+
 // A statement or error text.
 #[cycle(statement)]
 fn item(
@@ -202,9 +246,7 @@ fn rest(
     c: Cursor,
     k: Skip,
     h: Done,
-    b: Body,
-    kind: Kind,
-    scope: bool,
+    form: Form,
     left: usize,
     rows: &mut [u32],
     errors: &mut [u32],
@@ -212,11 +254,11 @@ fn rest(
 ) -> Done
     requires skips { Skips multiline_trivia s.now c.at.0 false k }
     requires headed { Headed s.now c h }
-    ensures { Ends b scope (kind_number kind) s.now c k h left (tables rows.old errors.old requests.old) (tables rows.new errors.new requests.new) result }
+    ensures { Ends form.body form.scope (kind_number form.kind) s.now c k h left (tables rows.old errors.old requests.old) (tables rows.new errors.new requests.new) result }
 {
     let (d, x) = h?;
-    let (e, y) = body(s, d, b, x, left, rows, errors, requests)?;
-    row::close(c, k, e, y, kind, scope, rows)
+    let (e, y) = body(s, d, form.body, x, left, rows, errors, requests)?;
+    row::close(c, k, e, y, form.kind, form.scope, rows)
 }
 
 // A statement of a directive and an expression.
@@ -226,9 +268,7 @@ fn directive(
     c: Cursor,
     k: Skip,
     word: &[u8],
-    b: Body,
-    kind: Kind,
-    scope: bool,
+    form: Form,
     st: State,
     left: usize,
     rows: &mut [u32],
@@ -237,12 +277,12 @@ fn directive(
 ) -> Done
     requires fit { Fit 0 s.now c st }
     requires skips { Skips multiline_trivia s.now c.at.0 false k × (1 ≤ length word.now) }
-    ensures { Does (closing scope (kind_number kind) (directive_of word.now) (expression ▸ body_of b)) s.now c st left (tables rows.old errors.old requests.old) (tables rows.new errors.new requests.new) result }
+    ensures { Does (closing form.scope (kind_number form.kind) (directive_of word.now) (expression ▸ body_of form.body)) s.now c st left (tables rows.old errors.old requests.old) (tables rows.new errors.new requests.new) result }
 {
     let start = Cursor { met: false, ..c };
     let read = head::directive::directive_expression(s, start, k, word, left, rows);
     let h = lifted(s, st, read, errors);
-    rest(s, c, k, h, b, kind, scope, left, rows, errors, requests)
+    rest(s, c, k, h, form, left, rows, errors, requests)
 }
 
 #[cycle(statement)]
@@ -281,19 +321,7 @@ fn label(
 {
     let read = head::definition::label_head(s, Cursor { met: false, ..c }, k, rows);
     let h = lifted(s, st, read, errors);
-    rest(
-        s,
-        c,
-        k,
-        h,
-        Body::Maybe,
-        Kind::Label,
-        false,
-        left,
-        rows,
-        errors,
-        requests,
-    )
+    rest(s, c, k, h, LABEL, left, rows, errors, requests)
 }
 
 #[cycle(statement)]
@@ -313,19 +341,7 @@ fn macro_of(
 {
     let read = head::definition::macro_head(s, Cursor { met: false, ..c }, k, rows);
     let h = lifted(s, st, read, errors);
-    rest(
-        s,
-        c,
-        k,
-        h,
-        Body::Block,
-        Kind::MacroDefinition,
-        false,
-        left,
-        rows,
-        errors,
-        requests,
-    )
+    rest(s, c, k, h, MACRO, left, rows, errors, requests)
 }
 
 #[cycle(statement)]
@@ -377,20 +393,7 @@ fn fourth(
         Err(Stop::Miss(st)) => st,
         done => return done,
     };
-    let st = match directive(
-        s,
-        c,
-        k,
-        b".test",
-        Body::Block,
-        Kind::Test,
-        false,
-        st,
-        left,
-        rows,
-        errors,
-        requests,
-    ) {
+    let st = match directive(s, c, k, b".test", TEST, st, left, rows, errors, requests) {
         Err(Stop::Miss(st)) => st,
         done => return done,
     };
@@ -413,37 +416,11 @@ fn third(
     requires skips { Skips multiline_trivia s.now c.at.0 false k }
     ensures { Does from_loop s.now c st left (tables rows.old errors.old requests.old) (tables rows.new errors.new requests.new) result }
 {
-    let st = match directive(
-        s,
-        c,
-        k,
-        b".loop",
-        Body::Block,
-        Kind::Loop,
-        true,
-        st,
-        left,
-        rows,
-        errors,
-        requests,
-    ) {
+    let st = match directive(s, c, k, b".loop", LOOP, st, left, rows, errors, requests) {
         Err(Stop::Miss(st)) => st,
         done => return done,
     };
-    let st = match directive(
-        s,
-        c,
-        k,
-        b".if",
-        Body::Branches,
-        Kind::If,
-        false,
-        st,
-        left,
-        rows,
-        errors,
-        requests,
-    ) {
+    let st = match directive(s, c, k, b".if", IF, st, left, rows, errors, requests) {
         Err(Stop::Miss(st)) => st,
         done => return done,
     };
@@ -484,9 +461,7 @@ fn second(
         c,
         k,
         b".segment",
-        Body::Maybe,
-        Kind::Segment,
-        false,
+        SEGMENT,
         st,
         left,
         rows,

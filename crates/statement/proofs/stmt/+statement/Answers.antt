@@ -373,16 +373,16 @@ pub rest-close-requires : goal.rest-close-requires
 rest-close-requires t c =
     let df = c.requires.headed.fit c.in_ok-d.d c.in_ok-d.x c.in_ok-d.was in
     let dg = c.requires.headed.grown c.in_ok-d.d c.in_ok-d.x c.in_ok-d.was in
-    let ef = fit_then c.in_ok-e.ensures df (body_paid c.args.b) c.in_ok-e.e c.in_ok-e.y refl in
-    let eg = grown_then c.in_ok-e.ensures df (body_paid c.args.b) c.in_ok-e.e c.in_ok-e.y refl in
+    let ef = fit_then c.in_ok-e.ensures df (body_paid c.args.form.body) c.in_ok-e.e c.in_ok-e.y refl in
+    let eg = grown_then c.in_ok-e.ensures df (body_paid c.args.form.body) c.in_ok-e.e c.in_ok-e.y refl in
     spans c.requires.skips ef (omega (arith, dg, eg))
 
 pub rest-returns : goal.rest-returns
 rest-returns t c =
     let df = c.requires.headed.fit c.in_ok-d.d c.in_ok-d.x c.in_ok-d.was in
     let dg = c.requires.headed.grown c.in_ok-d.d c.in_ok-d.x c.in_ok-d.was in
-    let ef = fit_then c.in_ok-e.ensures df (body_paid c.args.b) c.in_ok-e.e c.in_ok-e.y refl in
-    let eg = grown_then c.in_ok-e.ensures df (body_paid c.args.b) c.in_ok-e.e c.in_ok-e.y refl in
+    let ef = fit_then c.in_ok-e.ensures df (body_paid c.args.form.body) c.in_ok-e.e c.in_ok-e.y refl in
+    let eg = grown_then c.in_ok-e.ensures df (body_paid c.args.form.body) c.in_ok-e.e c.in_ok-e.y refl in
     ends_got c.in_ok-d.d c.in_ok-d.x c.in_ok-d.was c.in_ok-e.ensures c.in_ok-e.e c.in_ok-e.y refl (omega (arith, dg, eg)) c.close.ensures
 
 pub second-returns-in_default : goal.second-returns-in_default
