@@ -1,5 +1,5 @@
 -- Sequences and alternatives of readers with the state: the order of statement(), items, blocks.
-use mathlib.Core.Path.{◌≡◌, ap, sym, subst}
+use mathlib.Core.Path.{◌≡◌, refl, ap, sym, subst, ◌∙◌}
 use mathlib.Core.Bool.{true, false}
 use mathlib.Core.List.{List, [], ◌∷◌}
 use Prim.Native.Nat.{ℕ, ◌-◌, ◌≤◌, ◌<◌}
@@ -21,7 +21,7 @@ use Rattle.state.proofs.Bounds.{sober, acted, moved, fit_got, fit_miss}
 use Rattle.state.proofs.Blocks.{block_out, block_none, block_items, block_end, block_got}
 use Rattle.statement.specs.declared.Body.{Body}
 use Rattle.statement.specs.declared.Body.TheVariants.{Maybe, Block, Branches}
-use Rattle.statement.specs.Shapes.{mark_of, body_of, closing}
+use Rattle.statement.specs.Shapes.{mark_of, optional, body_of, closing}
 use Rattle.statement.specs.Heads.{from_macro, from_loop, from_import}
 use Rattle.head.specs.Heads.{word_of, directive_of}
 use Rattle.statement.proofs.Same.{Same, does_same, same_then, or_same, or_assoc}
@@ -44,11 +44,17 @@ module _ {m : Parser} {s : List ℕ} {c : Cursor} {st : Counts} {left : ℕ} {T 
   pub does_then : {n : Parser} (d : Cursor) (x : Counts) → r ≡ Ok (d, x) → {T₂ : Tables} {r₂ : Done} → Does n s d x left T₁ T₂ r₂ → Does (m ▸ n) s c st left T T₂ r₂
   does_then {n} d x q b = record { acting = λ l. seq_got (a.acting l) n d x q (b.acting l) }
 
-  pub does_opt : ((x : Counts) → r ≡ Err (Miss x) → ⊥) → Does (opt m) s c st left T T₁ r
-  does_opt h = record { acting = λ l. opt_first (a.acting l) h }
+  pub does_optional : {r₂ : Done} → r₂ ≡ optional c r → Does (opt m) s c st left T T₁ r₂
+  unfolding optional
+  does_optional {r₂} e = go r refl
+    where
+      from : {x : Done} → r₂ ≡ x → Does (opt m) s c st left T T₁ x → Does (opt m) s c st left T T₁ r₂
+      from q b = subst (Does (opt m) s c st left T T₁) (sym q) b
 
-  pub does_none : (x : Counts) → r ≡ Err (Miss x) → Does (opt m) s c st left T T₁ (Ok (cursor c.at.0 c.count.0 false, x))
-  does_none x q = record { acting = λ l. opt_miss (a.acting l) x q }
+      go : (y : Done) → r ≡ y → Does (opt m) s c st left T T₁ r₂
+      go (Ok d) q = from (e ∙ ap (optional c) q ∙ sym q) (record { acting = λ l. opt_first (a.acting l) λ x z. grind arith })
+      go (Err (Miss x)) q = from (e ∙ ap (optional c) q) (record { acting = λ l. opt_miss (a.acting l) x q })
+      go (Err Deep) q = from (e ∙ ap (optional c) q ∙ sym q) (record { acting = λ l. opt_first (a.acting l) λ x z. grind arith })
 
   module _ (fit : Fit 0 s c st) where
     pub fit_then : Paid m → (d : Cursor) (x : Counts) → r ≡ Ok (d, x) → Fit 0 s d x

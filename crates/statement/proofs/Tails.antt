@@ -23,7 +23,7 @@ use Rattle.state.proofs.Laws.{seq_out, seq_got, seq_assoc}
 use Rattle.state.proofs.Rows.{Starts, line_quiet, starts_node, over_out, over_got, scoped_out, scoped_got}
 use Rattle.state.proofs.Bounds.{acted}
 use Rattle.statement.specs.declared.Body.{Body}
-use Rattle.statement.specs.Shapes.{closing, closed_state, Closed, Imported, body_of, Begins, Headed, Ends}
+use Rattle.statement.specs.Shapes.{closing, closed_state, closed_rows, Closed, Imported, body_of, Begins, Headed, Ends}
 use Rattle.head.specs.Heads.{word_of, directive_of, directive_expression}
 use Rattle.statement.proofs.Tests.{directive_sober}
 use Rattle.std.specs.Prelude.{Ok, IsErr}
@@ -46,6 +46,18 @@ pub begins_node : (k : ℕ) (d : Rows → ℕ) (m : Parser) {s : List ℕ} {i : 
 begins_node k d m skip = begins_from λ l lim st. starts_node k d m line_quiet skip
 
 -- The row ------------------------------------------------------------------
+
+module _ {kind : ℕ} {c : Cursor} {k : Skip} {d : Cursor} {st : Counts} {t t' : List ℕ} {scope : Bool} where
+  pub closed_numbered : scope ≡ true → t' ≡ closed_rows kind (st.scope + 1) c k d t
+      → Closed scope kind c k d st t t' (Ok (cursor d.at.0 (d.count.0 + 1) false, closed_state true st))
+  closed_numbered e h =
+      subst (λ (b : Bool). Closed b kind c k d st t t' (Ok (cursor d.at.0 (d.count.0 + 1) false, closed_state true st))) (sym e)
+      (record { table = h; answer = refl })
+
+  pub closed_plain : scope ≡ false → t' ≡ closed_rows kind 0 c k d t → Closed scope kind c k d st t t' (Ok (cursor d.at.0 (d.count.0 + 1) false, st))
+  closed_plain e h =
+      subst (λ (b : Bool). Closed b kind c k d st t t' (Ok (cursor d.at.0 (d.count.0 + 1) false, st))) (sym e)
+      (record { table = h; answer = refl })
 
 pub closing_out : (scope : Bool) (kind : ℕ) {m n : Parser} {s : List ℕ} {l lim i base : ℕ} {st : Counts} {T T₁ : Tables} {r : Done}
     → Acting (m ▸ n) s l lim i base st T T₁ r → IsErr r → Acting (closing scope kind m n) s l lim i base st T T₁ r

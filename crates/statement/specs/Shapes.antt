@@ -46,6 +46,12 @@ pub record Lifted (n : ℕ) (f : Read) (st : Counts) (e e' : List ℕ) (r : Done
 
 -- What may be missing ------------------------------------------------------
 
+-- what was tried from c on may be missing
+unfoldable pub optional : Cursor → Done → Done
+optional c (Ok a) = Ok a
+optional c (Err (Miss x)) = Ok (cursor c.at.0 c.count.0 false, x)
+optional c (Err Deep) = Err Deep
+
 -- an answer stays as it is; at a miss the report of this code is made at c, and what stands behind is read from there
 pub record Expected (code : ℕ) (c : Cursor) (h : Done) (e e' : List ℕ) (r : Done) : Type 0 where
   pub kept : ((x : Counts) → h ≡ Err (Miss x) → ⊥) → (r ≡ h) × (e' ≡ e)

@@ -1,11 +1,11 @@
 // The cycle of statements and blocks.
-ghost use Rattle.std.specs.Prelude.{false, ◌^◌, ◌≤◌, ◌<◌, length};
+ghost use Rattle.std.specs.Prelude.{false, ◌≡◌, ◌^◌, ◌≤◌, ◌<◌, length};
 ghost use Rattle.reading.specs.Grammar.{◌▸◌, many0};
 ghost use Rattle.reading.specs.Rules.{opt, multiline_trivia, directive, expression, block, block_item, braces, label, macro_definition, import', statement};
 ghost use Rattle.cursor.specs.Text.{Skips};
 ghost use Rattle.table.specs.Kinds.{kind_number};
 ghost use Rattle.state.specs.Acts.{Fit, Does, tables};
-ghost use Rattle.statement.specs.Shapes.{body_of, closing, Headed, Ends};
+ghost use Rattle.statement.specs.Shapes.{optional, body_of, closing, Headed, Ends};
 ghost use Rattle.statement.specs.Heads.{from_macro, from_loop, from_import};
 ghost use Rattle.head.specs.Heads.{directive_of};
 
@@ -155,6 +155,16 @@ fn block(
     braced(s, c, k, st, left, rows, errors, requests)
 }
 
+// What was tried from `c` on may be missing.
+fn optional(c: Cursor, done: Done) -> Done
+    ensures { result ≡ optional c done }
+{
+    match done {
+        Err(Stop::Miss(x)) => Ok((Cursor { met: false, ..c }, x)),
+        done => done,
+    }
+}
+
 // A block or nothing.
 #[cycle(statement)]
 fn maybe(
@@ -169,11 +179,8 @@ fn maybe(
     requires { Fit 0 s.now c st }
     ensures { Does (opt block) s.now c st left (tables rows.old errors.old requests.old) (tables rows.new errors.new requests.new) result }
 {
-    let x = match block(s, c, st, left, rows, errors, requests) {
-        Err(Stop::Miss(x)) => x,
-        done => return done,
-    };
-    Ok((Cursor { met: false, ..c }, x))
+    let done = block(s, c, st, left, rows, errors, requests);
+    optional(c, done)
 }
 
 // `else` and its block.
@@ -211,11 +218,8 @@ fn branches(
     ensures { Does (block ▸ opt (directive "else" ▸ block)) s.now c st left (tables rows.old errors.old requests.old) (tables rows.new errors.new requests.new) result }
 {
     let (d, x) = block(s, c, st, left, rows, errors, requests)?;
-    let y = match other(s, d, x, left, rows, errors, requests) {
-        Err(Stop::Miss(y)) => y,
-        done => return done,
-    };
-    Ok((Cursor { met: false, ..d }, y))
+    let done = other(s, d, x, left, rows, errors, requests);
+    optional(d, done)
 }
 
 #[cycle(statement)]

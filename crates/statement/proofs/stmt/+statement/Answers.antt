@@ -13,7 +13,7 @@ use Rattle.statement.proofs.Tests.{head_quiet, directive_quiet, statement_calm, 
 use Rattle.statement.proofs.Quiets.{tried, tried_fit}
 use Rattle.statement.proofs.Tails.{ends_out, ends_body, ends_got, directive_headed}
 use Rattle.statement.proofs.Parts.{braces_out, braces_got, label_ends, directive_ends, macro_ends, import_head_out, import_name_out, import_block_out, import_all}
-use Rattle.statement.proofs.Chains.{does_first, does_next, does_out, does_then, does_opt, does_none, fit_then, fit_next, grown_then, moved_then, statement_is, second_is, third_is, fourth_is, segment_is, loop_is, if_is, test_is}
+use Rattle.statement.proofs.Chains.{does_first, does_next, does_out, does_then, does_optional, fit_then, fit_next, grown_then, moved_then, statement_is, second_is, third_is, fourth_is, segment_is, loop_is, if_is, test_is}
 use Rattle.statement.proofs.Chains.{body_maybe, body_block, body_branches, item_first, item_error, block_no_brace, block_too_deep, brace_fit, brace_at, brace_grown, block_items_out, block_end_out, block_whole, items_fit, items_grown}
 use Rattle.statement.proofs.stmt.+statement.Goals as goal
 
@@ -107,17 +107,11 @@ branches-returns-in_err-d t c =
     let p = err_from_is_err_and c.from_residual.result c.from_residual.ensures.1 in
     rw (p.1, p.2) (does_out c.in_err-d.ensures refl)
 
-pub branches-other-requires : goal.branches-other-requires
-branches-other-requires t c = (omega arith, fit_then c.in_ok-d.ensures c.requires block_paid c.in_ok-d.d c.in_ok-d.x refl)
-
-pub branches-returns-in_default : goal.branches-returns-in_default
-branches-returns-in_default t c = does_then c.in_ok-d.ensures c.in_ok-d.d c.in_ok-d.x refl (does_opt c.in_default.ensures (λ m e. grind arith))
-
-pub branches-returns-in_default-2 : goal.branches-returns-in_default-2
-branches-returns-in_default-2 t c = does_then c.in_ok-d.ensures c.in_ok-d.d c.in_ok-d.x refl (does_opt c.other.ensures (λ m e. grind arith))
+pub branches-other-done-requires : goal.branches-other-done-requires
+branches-other-done-requires t c = (omega arith, fit_then c.in_ok-d.ensures c.requires block_paid c.in_ok-d.d c.in_ok-d.x refl)
 
 pub branches-returns : goal.branches-returns
-branches-returns t c = does_then c.in_ok-d.ensures c.in_ok-d.d c.in_ok-d.x refl (does_none c.other.ensures c.in-Err-Miss.y (c.in-Err-Miss.is ∙ ap Err c.in-Err-Miss.field-0-is))
+branches-returns t c = does_then c.in_ok-d.ensures c.in_ok-d.d c.in_ok-d.x refl (does_optional c.other-done.ensures c.optional.ensures)
 
 pub directive-lifted-h-requires : goal.directive-lifted-h-requires
 directive-lifted-h-requires t c = fit_lifts c.requires.fit
@@ -328,14 +322,8 @@ macro_of-returns t c =
     let h = lift_flat head_quiet.2 c.requires.fit.within c.lifted-h.ensures c.macro_head-read.ensures.reads in
     macro_ends c.requires.skips (h.does _ _) c.rest.ensures
 
-pub maybe-returns-in_default : goal.maybe-returns-in_default
-maybe-returns-in_default t c = does_opt c.in_default.ensures (λ m e. grind arith)
-
-pub maybe-returns-in_default-2 : goal.maybe-returns-in_default-2
-maybe-returns-in_default-2 t c = does_opt c.block.ensures (λ m e. grind arith)
-
 pub maybe-returns : goal.maybe-returns
-maybe-returns t c = does_none c.block.ensures c.in-Err-Miss.x (c.in-Err-Miss.is ∙ ap Err c.in-Err-Miss.field-0-is)
+maybe-returns t c = does_optional c.block-done.ensures c.optional.ensures
 
 pub other-lifted-requires : goal.other-lifted-requires
 other-lifted-requires t c = fit_lifts c.requires
