@@ -11,7 +11,6 @@ use Rattle.reading.specs.Rules.{opt, directive, expression, multiline_trivia, bl
 use Rattle.reading.specs.Rules.{instruction, variable_definition, const_definition, pc_definition, config_definition, macro_invocation, data', segment, loop', if', align, text, file, test, assert, trace}
 use Rattle.reading.proofs.Moves.{moves}
 use Rattle.lexis.specs.Around.{Finished}
-use Rattle.cursor.specs.Text.{cursor}
 use Rattle.cursor.specs.declared.Cursor.{Cursor}
 use Rattle.state.specs.declared.State.{State as Counts}
 use Rattle.state.specs.Done.{Done}
