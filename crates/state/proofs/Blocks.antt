@@ -23,7 +23,7 @@ use Rattle.cursor.specs.declared.Skip.{Skip}
 use Rattle.state.specs.declared.State.{State as Counts}
 use Rattle.state.specs.Done.{Done}
 use Rattle.state.specs.Acts.{counts, log, Tables, tables, rules, state_after, Acts, Acting, Does, TellsLeaf, opening, Closes, Reported}
-use Rattle.state.proofs.Agree.{found, Rises, peak_then, peak_else, got_deep, acts_is, acts_ok, acts_push, acts_told, acts_with, acts_deep, acts_got, acts_or, acts_out}
+use Rattle.state.proofs.Agree.{found, Rises, peak_then, peak_else, acts_is, acts_ok, acts_push, acts_told, acts_with, acts_deep, acts_got, acts_or, acts_out}
 use Rattle.state.proofs.Agree.{acts_first}
 use Rattle.state.proofs.Reports.{told_counts, told_logged}
 use Rattle.state.proofs.Lift.{acting_from}

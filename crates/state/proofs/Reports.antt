@@ -4,7 +4,7 @@ use mathlib.Core.Bool.{Bool, true, false, cond, not}
 use mathlib.Core.List.{List, [], ◌∷◌, ◌++◌}
 use Prim.Native.Nat.{ℕ, suc, ◌+◌}
 use native.Mathlib.Omega.{arith}
-use borrow.Author.Tests.{not-true, not-false}
+use borrow.Author.Tests.{not-true}
 use lib.ListN.{length, length-append}
 use Rattle.reading.specs.Grammar.{State, Error, Request, reported, numbered, requested, error_at}
 use Rattle.reading.specs.Summary.{noted}
@@ -118,7 +118,7 @@ module _ (x : Error) (st : Counts) (e : List ℕ) where
       }
 
 -- a note is a report, after which the flag is set
-note_report : {n : ℕ} {met : Bool} {st x : Counts} {e e' : List ℕ} → met ≡ true → Reported (error_at 1 n) st x e e'
+pub note_report : {n : ℕ} {met : Bool} {st x : Counts} {e e' : List ℕ} → met ≡ true → Reported (error_at 1 n) st x e e'
     → Noted n met st (record { scope = x.scope; swallow = true; errors = x.errors; requests = x.requests }) e e'
 unfolding told noting
 note_report {n} {met} {st} {x} {e} m r =
@@ -127,16 +127,8 @@ note_report {n} {met} {st} {x} {e} m r =
       table = r.table ∙ ap (λ b. cond b (told_in st (error_at 1 n) e) e) (sym m);
     }
 
-module _ (n : ℕ) (met : Bool) (st : Counts) (e : List ℕ) where
-  pub note_none : not met ≡ true → Noted n met st st e e
-  unfolding noting
-  note_none f =
-      let m = not-true met f in
-      record { state = ap (λ b. noting b st) (sym m); table = ap (λ b. cond b (told_in st (error_at 1 n) e) e) (sym m) }
-
-  pub note_lost : not met ≡ false → st.swallow ≡ true → Noted n met st (record { scope = st.scope; swallow = true; errors = st.errors; requests = st.requests }) e e
-  note_lost f g = note_report (not-false met f) (report_lost (error_at 1 n) st e g)
-
-  pub note_made : not met ≡ false → st.swallow ≡ false → {e' : List ℕ} → e' ≡ pushed error_width e st.errors (error_record 1 n n)
-      → Noted n met st (record { scope = st.scope; swallow = true; errors = st.errors + 1; requests = st.requests }) e e'
-  note_made f g h = note_report (not-false met f) (report_kept (error_at 1 n) st e g h)
+pub note_none : (n : ℕ) (met : Bool) (st : Counts) (e : List ℕ) → not met ≡ true → Noted n met st st e e
+unfolding noting
+note_none n met st e f =
+    let m = not-true met f in
+    record { state = ap (λ b. noting b st) (sym m); table = ap (λ b. cond b (told_in st (error_at 1 n) e) e) (sym m) }

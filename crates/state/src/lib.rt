@@ -2,7 +2,8 @@
 // written reading is in specs/, the laws that put such relations together in proofs/.
 #![tactic(auto)]
 
-ghost use Rattle.std.specs.Prelude.{◌^◌, ◌<◌};
+ghost use Rattle.std.specs.Prelude.{◌≡◌, ◌^◌, ◌<◌};
+ghost use Rattle.state.specs.Codes.{code_number};
 ghost use Rattle.state.specs.Acts.{Reported, Noted, Requested};
 
 use cursor::{Cursor, Stop};
@@ -17,13 +18,31 @@ pub struct State {
     pub requests: usize,
 }
 
+// What an error says, in the words of its message. The error table holds the number.
+#[derive(Clone, Copy, Debug, PartialEq, Eq)]
+pub enum ErrorCode {
+    UnterminatedComment = 1,
+    UnexpectedText,
+    ExpectedExpression,
+    ExpectedConfigurationObject,
+    ExpectedClosingDelimiter,
+}
+
+impl ErrorCode {
+    pub fn number(self) -> u32
+        ensures { result ≡ code_number self }
+    {
+        self as u32
+    }
+}
+
 // The answer of a reader with the state: it fits, and ends here in this state. An attempt leaves the state too.
 pub type Done = Result<(Cursor, State), Stop<State>>;
 
 // report_error: an error that meets the flag clears it and is lost.
-pub fn report(st: State, code: usize, low: Pos, high: Pos, errors: &mut [u32]) -> State
-    requires { (code < 2 ^ 32) × (low.0 < 2 ^ 32) × (high.0 < 2 ^ 32) × (st.errors < 2 ^ 32) }
-    ensures { Reported (record { code = code; low = low.0; high = high.0 }) st result errors.old errors.new }
+pub fn report(st: State, code: ErrorCode, low: Pos, high: Pos, errors: &mut [u32]) -> State
+    requires { (low.0 < 2 ^ 32) × (high.0 < 2 ^ 32) × (st.errors < 2 ^ 32) }
+    ensures { Reported (record { code = code_number code; low = low.0; high = high.0 }) st result errors.old errors.new }
 {
     let n = st.errors;
     if st.swallow {
@@ -32,7 +51,7 @@ pub fn report(st: State, code: usize, low: Pos, high: Pos, errors: &mut [u32]) -
             ..st
         };
     }
-    table::push_error(errors, n, code, low, high);
+    table::push_error(errors, n, code.number() as usize, low, high);
     State {
         swallow: false,
         errors: n + 1,
@@ -48,18 +67,10 @@ pub fn note(st: State, met: bool, end: Pos, errors: &mut [u32]) -> State
     if !met {
         return st;
     }
-    let n = st.errors;
-    if st.swallow {
-        return State {
-            swallow: true,
-            ..st
-        };
-    }
-    table::push_error(errors, n, 1, end, end);
+    let reported = report(st, ErrorCode::UnterminatedComment, end, end, errors);
     State {
         swallow: true,
-        errors: n + 1,
-        ..st
+        ..reported
     }
 }
 

@@ -1,18 +1,16 @@
 -- Sequences and alternatives of readers with the state: the order of statement(), items, blocks.
-use mathlib.Core.Path.{◌≡◌, sym, subst}
+use mathlib.Core.Path.{◌≡◌, refl, ap, sym, subst, ◌∙◌}
 use mathlib.Core.Bool.{true, false}
 use mathlib.Core.List.{List, [], ◌∷◌}
-use Prim.Native.Nat.{ℕ, ◌+◌, ◌-◌, ◌≤◌, ◌<◌}
+use Prim.Native.Nat.{ℕ, ◌-◌, ◌≤◌, ◌<◌}
 use native.Mathlib.Omega.{arith}
 use lib.Dec.{T as Passes}
 use Rattle.reading.specs.Kind.{blockᵏ, loopᵏ, ifᵏ, segmentᵏ, testᵏ}
 use Rattle.reading.specs.Grammar.{Parser, ◌▸◌, ◌or◌, many0}
 use Rattle.reading.specs.Rules.{opt, directive, expression, multiline_trivia, block, block_item, braces, label, macro_definition, import', statement, error_in_block}
 use Rattle.reading.specs.Rules.{instruction, variable_definition, const_definition, pc_definition, config_definition, macro_invocation, data', segment, loop', if', align, text, file, test, assert, trace}
-use Rattle.reading.specs.Table.{row_width}
 use Rattle.reading.proofs.Moves.{moves}
-use Rattle.table.specs.Words.{pushed, row_record}
-use Rattle.cursor.specs.Text.{cursor}
+use Rattle.lexis.specs.Around.{Finished}
 use Rattle.cursor.specs.declared.Cursor.{Cursor}
 use Rattle.state.specs.declared.State.{State as Counts}
 use Rattle.state.specs.Done.{Done}
@@ -22,7 +20,7 @@ use Rattle.state.proofs.Bounds.{sober, acted, moved, fit_got, fit_miss}
 use Rattle.state.proofs.Blocks.{block_out, block_none, block_items, block_end, block_got}
 use Rattle.statement.specs.declared.Body.{Body}
 use Rattle.statement.specs.declared.Body.TheVariants.{Maybe, Block, Branches}
-use Rattle.statement.specs.Shapes.{mark_of, body_of, closing}
+use Rattle.statement.specs.Shapes.{mark_of, optional, body_of, closing}
 use Rattle.statement.specs.Heads.{from_macro, from_loop, from_import}
 use Rattle.head.specs.Heads.{word_of, directive_of}
 use Rattle.statement.proofs.Same.{Same, does_same, same_then, or_same, or_assoc}
@@ -45,11 +43,17 @@ module _ {m : Parser} {s : List ℕ} {c : Cursor} {st : Counts} {left : ℕ} {T 
   pub does_then : {n : Parser} (d : Cursor) (x : Counts) → r ≡ Ok (d, x) → {T₂ : Tables} {r₂ : Done} → Does n s d x left T₁ T₂ r₂ → Does (m ▸ n) s c st left T T₂ r₂
   does_then {n} d x q b = record { acting = λ l. seq_got (a.acting l) n d x q (b.acting l) }
 
-  pub does_opt : ((x : Counts) → r ≡ Err (Miss x) → ⊥) → Does (opt m) s c st left T T₁ r
-  does_opt h = record { acting = λ l. opt_first (a.acting l) h }
+  pub does_optional : {r₂ : Done} → r₂ ≡ optional c r → Does (opt m) s c st left T T₁ r₂
+  unfolding optional
+  does_optional {r₂} e = go r refl
+    where
+      from : {x : Done} → r₂ ≡ x → Does (opt m) s c st left T T₁ x → Does (opt m) s c st left T T₁ r₂
+      from q b = subst (Does (opt m) s c st left T T₁) (sym q) b
 
-  pub does_none : (x : Counts) → r ≡ Err (Miss x) → Does (opt m) s c st left T T₁ (Ok (cursor c.at.0 c.count.0 false, x))
-  does_none x q = record { acting = λ l. opt_miss (a.acting l) x q }
+      go : (y : Done) → r ≡ y → Does (opt m) s c st left T T₁ r₂
+      go (Ok d) q = from (e ∙ ap (optional c) q ∙ sym q) (record { acting = λ l. opt_first (a.acting l) λ x z. grind arith })
+      go (Err (Miss x)) q = from (e ∙ ap (optional c) q) (record { acting = λ l. opt_miss (a.acting l) x q })
+      go (Err Deep) q = from (e ∙ ap (optional c) q ∙ sym q) (record { acting = λ l. opt_first (a.acting l) λ x z. grind arith })
 
   module _ (fit : Fit 0 s c st) where
     pub fit_then : Paid m → (d : Cursor) (x : Counts) → r ≡ Ok (d, x) → Fit 0 s d x
@@ -167,13 +171,13 @@ module _ {s : List ℕ} {c : Cursor} {st : Counts} {left : ℕ} {t t₁ e e₁ q
         unfolding block mark_of
         block_end_out h = block_end block_item blockᵏ 0 (a.does left q) d x z some b (d.at.0 - 1) (omega arith) g y z₂ shut h
 
-        pub block_whole : (h : Cursor) (w : Counts) → r₃ ≡ Ok (h, w) → c.count.0 ≤ h.count.0 → {f : List ℕ}
-            → f ≡ pushed row_width t₃ h.count.0 (row_record blockᵏ (h.count.0 + 1 - c.count.0) c.at.0 (d.at.0 - 1) h.at.0 0)
-            → Does block s c st left (tables t e q) (tables f e₃ T₂.requests) (Ok (cursor h.at.0 (h.count.0 + 1) false, w))
+        pub block_whole : (h : Cursor) (w : Counts) → r₃ ≡ Ok (h, w) → {f : List ℕ} {v : Cursor} → Finished blockᵏ 0 c (d.at.0 - 1) h t₃ f v
+            → Does block s c st left (tables t e q) (tables f e₃ T₂.requests) (Ok (record { at = v.at; count = v.count; met = false }, w))
         unfolding block mark_of
-        block_whole h w z₃ grown is =
-            block_got block_item blockᵏ 0 (a.does left q) d x z some b (d.at.0 - 1) (omega arith) g y z₂ shut h w z₃
-            (h.count.0 + 1 - c.count.0) (omega arith) is
+        block_whole h w z₃ {f} row =
+            subst (Does block s c st left (tables t e q) (tables f e₃ T₂.requests))
+            (sym (ap {B = Done} (λ (v : Cursor). Ok (record { at = v.at; count = v.count; met = false }, w)) row.is))
+            (block_got block_item blockᵏ 0 (a.does left q) d x z some b (d.at.0 - 1) (omega arith) g y z₂ shut h w z₃ row.size row.counts row.table)
 
 module _ {s : List ℕ} {d : Cursor} {x : Counts} (fit : Fit 0 s d x) {left : ℕ} {T T₁ : Tables} {r : Done} (b : Does (many0 block_item) s d x left T T₁ r)
     (g : Cursor) (y : Counts) (z : r ≡ Ok (g, y)) where

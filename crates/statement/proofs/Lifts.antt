@@ -11,18 +11,19 @@ use Rattle.reading.specs.Rules.{multiline_trivia}
 use Rattle.reading.proofs.Tests.{quiet}
 use Rattle.reading.specs.Table.{max_text}
 use Rattle.cursor.specs.Text.{cursor, Skips}
-use Rattle.cursor.specs.Agree.{Reads, Leafs}
+use Rattle.cursor.specs.Agree.{Reads, Leafs, Ready}
 use Rattle.cursor.specs.declared.Cursor.{Cursor}
 use Rattle.cursor.specs.declared.Skip.{Skip}
 use Rattle.cursor.specs.Read.{Read}
 use Rattle.cursor.proofs.Laws.{reads_leaf}
+use Rattle.lexis.specs.Around.{Spans}
 use Rattle.state.specs.declared.State.{State as Counts}
 use Rattle.state.specs.Done.{Done}
 use Rattle.state.specs.Acts.{Tables, tables, Acting, Does, Tells, TellsLeaf, Fit, Noted}
 use Rattle.state.proofs.Reports.{note_none}
 use Rattle.state.proofs.Lift.{lift_got, lift_miss, lift_deep}
 use Rattle.state.proofs.Bounds.{sober, settled, acted, fit_got, fit_errors}
-use Rattle.statement.specs.Shapes.{met_of, done_from, Lifted, Spans, Headed}
+use Rattle.statement.specs.Shapes.{met_of, done_from, Lifted, Headed}
 use Rattle.cursor.specs.declared.Stop.TheVariants.{Miss, Deep}
 use Rattle.std.specs.Prelude.{Ok, Err}
 
@@ -80,6 +81,9 @@ module _ {s : List ℕ} {c : Cursor} {st : Counts} (h : Fit 0 s c st) where
   pub fit_lifts : (length s ≤ max_text) × (st.errors < 2 ^ 32)
   fit_lifts = (h.small, omega (arith, fit_errors h))
 
+  pub fit_ready : Ready 0 s (cursor c.at.0 c.count.0 false)
+  fit_ready = record { small = h.small; within = h.within; few = h.few }
+
   -- behind what a parser that owes nothing has read
   pub headed : (g : Parser) → Passes (sober g) → Passes (settled g) → {left : ℕ} {T T₁ : Tables} {r : Done} → Does g s c st left T T₁ r → Headed s c r
   headed g t u a =
@@ -88,14 +92,16 @@ module _ {s : List ℕ} {c : Cursor} {st : Counts} (h : Fit 0 s c st) where
         grown = λ d x q. (acted g h.within (a.acting 0) t d x q).grown;
       }
 
--- a row may be pushed from before the trivia to where a reader ended
-pub spans : {s : List ℕ} {c : Cursor} {k : Skip} → Skips multiline_trivia s c.at.0 false k → {d : Cursor} {x : Counts} → Fit 0 s d x → c.count.0 ≤ d.count.0 → Spans c k d x
-spans skip {d} {x} b grown =
-    record {
-      grown = grown;
-      few = omega (arith, b.small, b.within, b.few);
-      tlow = omega (arith, b.small, skip.on, skip.within);
-      low = omega (arith, b.small, skip.within);
-      high = omega (arith, b.small, b.within);
-      scope = omega (arith, b.small, b.within, b.scopes);
-    }
+-- a row may be pushed from before the trivia to where a reader ended, and a scope numbered
+pub spans : {s : List ℕ} {c : Cursor} {k : Skip} → Skips multiline_trivia s c.at.0 false k → {d : Cursor} {x : Counts} → Fit 0 s d x → c.count.0 ≤ d.count.0
+    → Spans c k.at.0 d × (x.scope + 1 < 2 ^ 32)
+spans skip {d} {x} b grown = (
+  record {
+    grown = grown;
+    few = omega (arith, b.small, b.within, b.few);
+    start = omega (arith, b.small, skip.on, skip.within);
+    body = omega (arith, b.small, skip.within);
+    end = omega (arith, b.small, b.within);
+  },
+  omega (arith, b.small, b.within, b.scopes),
+)

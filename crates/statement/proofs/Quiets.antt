@@ -1,24 +1,30 @@
 -- Groups of quiet statements, and statements that report what is missing.
-use mathlib.Core.Path.{◌≡◌}
+use mathlib.Core.Path.{◌≡◌, refl, sym, subst}
 use mathlib.Core.Bool.{false}
-use mathlib.Core.List.{List}
+use mathlib.Core.List.{List, []}
 use Prim.Native.Nat.{ℕ, ◌≤◌}
+use native.Mathlib.Omega.{arith}
+use lib.ListN.{length}
+use Rattle.cursor.specs.Agree.{Reads}
+use Rattle.cursor.specs.Read.{Read}
+use Rattle.statement.proofs.Lifts.{lift}
+use Rattle.statement.proofs.Tests.{Calm}
 use Rattle.reading.specs.Kind.{definitionᵏ, dataᵏ, data_sizeᵏ, wordᵏ}
-use Rattle.reading.specs.Grammar.{Parser, ◌or◌, expect, error_at, always}
+use Rattle.reading.specs.Grammar.{Parser, ◌or◌, expect, always}
 use Rattle.reading.specs.Rules.{word, multiline_trivia, config_map, config_definition, expression_arg_list, data_size, data'}
 use Rattle.cursor.specs.Text.{cursor, Skips}
 use Rattle.cursor.specs.declared.Cursor.{Cursor}
 use Rattle.cursor.specs.declared.Skip.{Skip}
 use Rattle.state.specs.declared.State.{State as Counts}
 use Rattle.state.specs.Done.{Done}
-use Rattle.state.specs.Acts.{Tells, TellsLeaf, Reported}
+use Rattle.state.specs.Acts.{Tells, TellsLeaf, Fit}
 use Rattle.state.proofs.Laws.{seq_out, seq_got, seq_assoc, expect_first, expect_miss}
 use Rattle.state.proofs.Rows.{Starts, line_quiet, starts_node, starts_or}
-use Rattle.statement.specs.Shapes.{Closed}
+use Rattle.statement.specs.Shapes.{Closed, Expected, Lifted}
 use Rattle.head.specs.Heads.{define_head}
 use Rattle.statement.proofs.Tails.{closing_out, closing_got}
-use Rattle.statement.proofs.Chains.{does_first, does_next}
-use Rattle.cursor.specs.declared.Stop.TheVariants.{Miss}
+use Rattle.statement.proofs.Chains.{does_first, does_next, fit_next}
+use Rattle.cursor.specs.declared.Stop.TheVariants.{Miss, Deep}
 use Rattle.std.specs.Prelude.{Ok, Err, IsErr}
 
 -- Groups -------------------------------------------------------------------
@@ -31,15 +37,40 @@ module _ {m : Parser} {s : List ℕ} {c : Cursor} {st : Counts} {left : ℕ} {t 
   tells_next x z b = record { does = λ q. does_next (a.does q) x z (b.does q) }
 
   -- what may be missing, with a report of its code where it would begin
-  pub tells_expect : (code : ℕ) → ((x : Counts) → r ≡ Err (Miss x) → ⊥) → Tells (expect code m) s c st left t t₁ e e₁ r
-  tells_expect code h = record { does = λ q. record { acting = λ l. expect_first ((a.does q).acting l) code h } }
+  pub tells_expected : (code : ℕ) {e₂ : List ℕ} {r₂ : Done} → Expected code c r e₁ e₂ r₂ → Tells (expect code m) s c st left t t₁ e e₂ r₂
+  tells_expected code {e₂} {r₂} w = go r refl
+    where
+      kept : ((x : Counts) → r ≡ Err (Miss x) → ⊥) → Tells (expect code m) s c st left t t₁ e e₂ r₂
+      kept h =
+          let is = w.kept h in
+          subst (λ f. Tells (expect code m) s c st left t t₁ e f r₂) (sym is.1)
+          (subst (Tells (expect code m) s c st left t t₁ e e₁) (sym is.0)
+          (record { does = λ q. record { acting = λ l. expect_first ((a.does q).acting l) code h } }))
 
-  pub tells_missing : (code : ℕ) (x : Counts) → r ≡ Err (Miss x) → {y : Counts} {e₂ : List ℕ} → Reported (error_at code c.at.0) x y e₁ e₂
-      → Tells (expect code m) s c st left t t₁ e e₂ (Ok (cursor c.at.0 c.count.0 false, y))
-  tells_missing code x z report = record { does = λ q. record { acting = λ l. expect_miss ((a.does q).acting l) code x z report } }
+      go : (y : Done) → r ≡ y → Tells (expect code m) s c st left t t₁ e e₂ r₂
+      go (Ok d) z = kept λ x q. grind arith
+      go (Err Deep) z = kept λ x q. grind arith
+      go (Err (Miss x)) z =
+          let is = w.missing x z in
+          subst (Tells (expect code m) s c st left t t₁ e e₂) (sym is.2)
+          (record { does = λ q. record { acting = λ l. expect_miss ((a.does q).acting l) code x z is.1 } })
 
-pub leaf_tells : {m : Parser} {s : List ℕ} {c : Cursor} {st : Counts} {left : ℕ} {t t₁ e e₁ : List ℕ} {r : Done} → TellsLeaf m s c st t t₁ e e₁ r → Tells m s c st left t t₁ e e₁ r
-leaf_tells {left = left} a = record { does = λ q. a.does left q }
+-- A quiet reader's answer as one of several alternatives ------------------------
+
+module _ {m : Parser} (u : Calm m) {s : List ℕ} {c : Cursor} {st : Counts} (fit : Fit 0 s c st) {t t₁ e e₁ : List ℕ} {f : Read} {r : Done}
+    (h : Lifted (length s) f st e e₁ r) {left : ℕ} (a : Reads m s (cursor c.at.0 c.count.0 false) left t t₁ f) where
+  pub tried : Tells m s c st left t t₁ e e₁ r
+  tried = lift u.0 fit.within h a
+
+  pub tried_fit : (x : Counts) → r ≡ Err (Miss x) → Fit 0 s c x
+  tried_fit x z = fit_next (tried.does []) fit u.1 x z
+
+  pub tried_first : {n : Parser} → ((x : Counts) → r ≡ Err (Miss x) → ⊥) → Tells (m or n) s c st left t t₁ e e₁ r
+  tried_first o = tells_first tried o
+
+  pub tried_next : {n : Parser} (x : Counts) → r ≡ Err (Miss x) → {t₂ e₂ : List ℕ} {r₂ : Done}
+      → (Fit 0 s c x → Tells n s c x left t₁ t₂ e₁ e₂ r₂) → Tells (m or n) s c st left t t₂ e e₂ r₂
+  tried_next x z b = tells_next tried x z (b (tried_fit x z))
 
 -- A definition and its map -------------------------------------------------
 

@@ -22,6 +22,10 @@ use Rattle.head.specs.Heads.{word_of, directive_of, directive_expression, label_
 abbrev pub Paid : Parser → Type 0
 Paid g = Passes (sober g) × Passes (settled g)
 
+-- quiet, and nothing owed where it fails
+abbrev pub Calm : Parser → Type 0
+Calm g = Passes (quiet g) × Passes (sober g)
+
 -- Leaves -------------------------------------------------------------------
 
 abbrev pub text_of : ℕ → Parser
@@ -143,18 +147,24 @@ directive_sober w = tt
 
 -- what is quiet, and read without the state
 pub head_quiet : Passes (quiet label_head) × Passes (quiet define_head) × Passes (quiet macro_head) × Passes (quiet data_size) × Passes (quiet import_head)
-    × Passes (quiet quoted_string) × Passes (quiet config_map) × Passes (quiet expression_arg_list) × Passes (quiet (directive "else"))
+    × Passes (quiet quoted_string) × Passes (quiet (directive "else"))
 unfolding all_rules label_head define_head macro_head parameters import_names import_head
-head_quiet = (tt, tt, tt, tt, tt, tt, tt, tt, tt)
+head_quiet = (tt, tt, tt, tt, tt, tt, tt)
 
 pub directive_quiet : (w : List ℕ) → Passes (quiet (directive_expression w))
 unfolding all_rules directive_of directive_expression word_of
 directive_quiet w = tt
 
-pub statement_quiet : Passes (quiet instruction) × Passes (quiet variable_definition) × Passes (quiet const_definition) × Passes (quiet pc_definition)
-    × Passes (quiet macro_invocation) × Passes (quiet align) × Passes (quiet text) × Passes (quiet file) × Passes (quiet assert) × Passes (quiet trace)
+-- such a statement, or a part that may be missing
+pub statement_calm : Calm instruction × Calm variable_definition × Calm const_definition × Calm pc_definition
+    × Calm macro_invocation × Calm align × Calm text × Calm file × Calm assert × Calm trace
 unfolding all_rules
-statement_quiet = (tt, tt, tt, tt, tt, tt, tt, tt, tt, tt)
+statement_calm =
+    ((tt, tt), (tt, tt), (tt, tt), (tt, tt), (tt, tt), (tt, tt), (tt, tt), (tt, tt), (tt, tt), (tt, tt))
+
+pub missing_calm : Calm config_map × Calm expression_arg_list
+unfolding all_rules
+missing_calm = ((tt, tt), (tt, tt))
 
 -- Statements: a failure leaves nothing but what was reported ------------------
 
@@ -170,23 +180,13 @@ pub second_sober : Passes (sober macro_definition) × Passes (sober (macro_invoc
 unfolding all_rules
 second_sober = (tt, tt, tt)
 
-pub third_sober : Passes (sober loop') × Passes (sober if') × Passes (sober align)
+pub third_sober : Passes (sober loop') × Passes (sober if')
 unfolding all_rules
-third_sober = (tt, tt, tt)
+third_sober = (tt, tt)
 
 pub fourth_sober : Passes (sober import') × Passes (sober (text or file)) × Passes (sober test)
 unfolding all_rules
 fourth_sober = (tt, tt, tt)
-
-pub quiet_sober : Passes (sober instruction) × Passes (sober variable_definition) × Passes (sober const_definition) × Passes (sober pc_definition)
-    × Passes (sober macro_invocation) × Passes (sober text) × Passes (sober assert)
-unfolding all_rules
-quiet_sober = (tt, tt, tt, tt, tt, tt, tt)
-
--- a report that something is missing may be made where nothing was read
-pub missing_sober : Passes (sober config_map) × Passes (sober expression_arg_list)
-unfolding all_rules
-missing_sober = (tt, tt)
 
 -- with the head, whose bytes pay for the report
 pub definition_paid : Paid (define_head ▸ expect 4 config_map)

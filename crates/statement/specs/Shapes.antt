@@ -1,8 +1,8 @@
 -- What the shared parts of statements do: a quiet reader's answer with the state, the row around a statement, what stands behind its head.
-use Rattle.std.specs.Prelude.{Bool, true, false, List, ◌≡◌, ℕ, ◌+◌, ◌-◌, ◌^◌, ◌≤◌, ◌<◌, Ok, Err}
+use Rattle.std.specs.Prelude.{Bool, true, false, List, ◌≡◌, ℕ, ◌+◌, ◌-◌, ◌≤◌, Ok, Err}
 use Rattle.reading.specs.Byte.{is}
 use Rattle.reading.specs.Kind.{charᵏ, errorᵏ, importᵏ}
-use Rattle.reading.specs.Grammar.{Rows, State, Input, ok, run1, one, Parser, ◌▸◌, leaf, over, scoped, complain, first_low, parse}
+use Rattle.reading.specs.Grammar.{Rows, State, Input, ok, run1, one, Parser, ◌▸◌, leaf, over, scoped, complain, error_at, first_low, parse}
 use Rattle.reading.specs.Rules.{opt, mws, directive, block}
 use Rattle.reading.specs.Table.{row_width, request_width}
 use Rattle.table.specs.Words.{pushed, row_record, request_record}
@@ -13,7 +13,7 @@ use Rattle.cursor.specs.declared.Skip.{Skip}
 use Rattle.cursor.specs.Read.{Read}
 use Rattle.state.specs.declared.State.{State as Counts}
 use Rattle.state.specs.Done.{Done}
-use Rattle.state.specs.Acts.{Tables, rules, Does, Noted, Fit}
+use Rattle.state.specs.Acts.{Tables, rules, Does, Noted, Reported, Fit}
 use Rattle.statement.specs.declared.Body.{Body}
 use Rattle.statement.specs.declared.Body.TheVariants.{Maybe, Block, Branches}
 use Rattle.cursor.specs.declared.Stop.TheVariants.{Miss, Deep}
@@ -44,16 +44,20 @@ pub record Lifted (n : ℕ) (f : Read) (st : Counts) (e e' : List ℕ) (r : Done
   pub noted : Noted n (met_of f) st x e e'
   pub answer : r ≡ done_from f x
 
--- The row around a statement -----------------------------------------------
+-- What may be missing ------------------------------------------------------
 
--- it has room for its columns
-pub record Spans (c : Cursor) (k : Skip) (d : Cursor) (st : Counts) : Type 0 where
-  pub grown : c.count.0 ≤ d.count.0
-  pub few : d.count.0 + 1 < 2 ^ 32
-  pub tlow : c.at.0 < 2 ^ 32
-  pub low : k.at.0 < 2 ^ 32
-  pub high : d.at.0 < 2 ^ 32
-  pub scope : st.scope + 1 < 2 ^ 32
+-- what was tried from c on may be missing
+unfoldable pub optional : Cursor → Done → Done
+optional c (Ok a) = Ok a
+optional c (Err (Miss x)) = Ok (cursor c.at.0 c.count.0 false, x)
+optional c (Err Deep) = Err Deep
+
+-- an answer stays as it is; at a miss the report of this code is made at c, and what stands behind is read from there
+pub record Expected (code : ℕ) (c : Cursor) (h : Done) (e e' : List ℕ) (r : Done) : Type 0 where
+  pub kept : ((x : Counts) → h ≡ Err (Miss x) → ⊥) → (r ≡ h) × (e' ≡ e)
+  pub missing : (x : Counts) → h ≡ Err (Miss x) → (y : Counts) × Reported (error_at code c.at.0) x y e e' × (r ≡ Ok (cursor c.at.0 c.count.0 false, y))
+
+-- The row around a statement -----------------------------------------------
 
 abbrev pub closing : Bool → ℕ → Parser → Parser → Parser
 closing true k m n = scoped k m n

@@ -8,7 +8,7 @@ ghost use Rattle.statement.specs.Shapes.{mark_of};
 use crate::lift::lifted;
 use cursor::{Cursor, Skip, Stop};
 use lexis::mark;
-use state::{Done, State};
+use state::{Done, ErrorCode, State};
 use table::{Kind, Pos, RowIndex};
 
 // The byte b behind the trivia that ends at k.
@@ -25,12 +25,12 @@ pub fn mark(
     requires skips { Skips multiline_trivia s.now c.at.0 false k }
     ensures { TellsLeaf (mark_of b) s.now c st rows.old rows.new errors.old errors.new result }
 {
-    let f = mark::char(s, Cursor { met: false, ..c }, k, b, rows);
-    lifted(s, st, f, errors)
+    let read = mark::char(s, Cursor { met: false, ..c }, k, b, rows);
+    lifted(s, st, read, errors)
 }
 
-// The end of a block whose opening brace stands at `low`, behind trivia from `tlow`: the closing brace, or report 5 before the trivia and a
-// copy of the opening one's row.
+// The end of a block whose opening brace stands at `low`, behind trivia from `tlow`: the closing brace, or a report before the trivia and a
+// copy of the opening one's row. It is not `expected` of that brace, since the row must be pushed before reading goes on.
 pub fn close(
     s: &[u8],
     c: Cursor,
@@ -41,7 +41,7 @@ pub fn close(
     errors: &mut [u32],
 ) -> Done
     requires fit { Fit 0 s.now c st }
-    requires tlow_in_bounds { (tlow.0 ≤ length s.now) × (low.0 < length s.now) }
+    requires in_text { (tlow.0 ≤ length s.now) × (low.0 < length s.now) }
     ensures { Closes multiline_trivia (opening tlow.0 low.0) s.now c st rows.old rows.new errors.old errors.new result }
 {
     let k = trivia::multiline_trivia(s, c.at, false);
@@ -49,8 +49,17 @@ pub fn close(
         Err(Stop::Miss(x)) => x,
         done => return done,
     };
-    table::push_row(rows, c.count, Kind::Char, 1, tlow, low, Pos(low.0 + 1), 125);
-    let y = state::report(x, 5, c.at, c.at, errors);
+    table::push_row(
+        rows,
+        c.count,
+        Kind::Char,
+        1,
+        tlow,
+        low,
+        Pos(low.0 + 1),
+        b'}' as usize,
+    );
+    let y = state::report(x, ErrorCode::ExpectedClosingDelimiter, c.at, c.at, errors);
     let end = Cursor {
         count: RowIndex(c.count.0 + 1),
         met: false,

@@ -1,30 +1,43 @@
 // Statements that report what is missing: a definition without its map, data without its values.
-ghost use Rattle.std.specs.Prelude.{false, ◌≤◌};
+ghost use Rattle.std.specs.Prelude.{false, Err, ◌≡◌, ◌^◌, ◌≤◌, ◌<◌};
 ghost use Rattle.reading.specs.Grammar.{expect};
 ghost use Rattle.reading.specs.Rules.{multiline_trivia, config_map, config_definition, expression_arg_list, data'};
+ghost use Rattle.cursor.specs.declared.Stop.TheVariants.{Miss};
 ghost use Rattle.cursor.specs.Text.{Skips};
 ghost use Rattle.state.specs.Acts.{Fit, Tells};
+ghost use Rattle.state.specs.Codes.{code_number};
+ghost use Rattle.statement.specs.Shapes.{Expected};
 
 use crate::lift::lifted;
-use crate::{row, start};
+use crate::row;
 use cursor::{Cursor, Skip, Stop};
 use head::directive;
 use operand::config_map;
-use state::{Done, State};
+use state::{Done, ErrorCode, State};
 use table::Kind;
 
-// A config map, or report 4 where it would begin.
+// What should stand at `c` has answered `done`. If it is missing, that is reported and reading goes on there.
+fn expected(c: Cursor, done: Done, code: ErrorCode, errors: &mut [u32]) -> Done
+    requires words { c.at.0 < 2 ^ 32 }
+    requires room { (x : _) → done ≡ Err (Miss x) → x.errors < 2 ^ 32 }
+    ensures { Expected (code_number code) c done errors.old errors.new result }
+{
+    let x = match done {
+        Err(Stop::Miss(x)) => x,
+        done => return done,
+    };
+    let y = state::report(x, code, c.at, c.at, errors);
+    Ok((Cursor { met: false, ..c }, y))
+}
+
+// A config map, or a report where it would begin.
 fn map(s: &[u8], c: Cursor, st: State, left: usize, rows: &mut [u32], errors: &mut [u32]) -> Done
     requires { Fit 0 s.now c st }
     ensures { Tells (expect 4 config_map) s.now c st left rows.old rows.new errors.old errors.new result }
 {
-    let f = config_map::config_map(s, Cursor { met: false, ..c }, left, rows);
-    let x = match lifted(s, st, f, errors) {
-        Err(Stop::Miss(x)) => x,
-        done => return done,
-    };
-    let y = state::report(x, 4, c.at, c.at, errors);
-    Ok((Cursor { met: false, ..c }, y))
+    let read = config_map::config_map(s, Cursor { met: false, ..c }, left, rows);
+    let done = lifted(s, st, read, errors);
+    expected(c, done, ErrorCode::ExpectedConfigurationObject, errors)
 }
 
 pub fn definition(
@@ -40,24 +53,21 @@ pub fn definition(
     requires skips { Skips multiline_trivia s.now c.at.0 false k }
     ensures { Tells config_definition s.now c st left rows.old rows.new errors.old errors.new result }
 {
-    let (d, x) = start::define_head(s, c, k, st, rows, errors)?;
+    let read = head::definition::define_head(s, Cursor { met: false, ..c }, k, rows);
+    let (d, x) = lifted(s, st, read, errors)?;
     let (e, y) = map(s, d, x, left, rows, errors)?;
     row::close(c, k, e, y, Kind::Definition, false, rows)
 }
 
-// Values, or report 3.
+// Values, or a report.
 fn values(s: &[u8], c: Cursor, st: State, left: usize, rows: &mut [u32], errors: &mut [u32]) -> Done
     requires fit { Fit 0 s.now c st }
-    requires le_at { 1 ≤ c.at.0 }
+    requires behind { 1 ≤ c.at.0 }
     ensures { Tells (expect 3 expression_arg_list) s.now c st left rows.old rows.new errors.old errors.new result }
 {
-    let f = directive::expression_arg_list(s, Cursor { met: false, ..c }, left, rows);
-    let x = match lifted(s, st, f, errors) {
-        Err(Stop::Miss(x)) => x,
-        done => return done,
-    };
-    let y = state::report(x, 3, c.at, c.at, errors);
-    Ok((Cursor { met: false, ..c }, y))
+    let read = directive::expression_arg_list(s, Cursor { met: false, ..c }, left, rows);
+    let done = lifted(s, st, read, errors);
+    expected(c, done, ErrorCode::ExpectedExpression, errors)
 }
 
 pub fn data(
@@ -73,7 +83,8 @@ pub fn data(
     requires skips { Skips multiline_trivia s.now c.at.0 false k }
     ensures { Tells data' s.now c st left rows.old rows.new errors.old errors.new result }
 {
-    let (d, x) = start::data_head(s, c, k, st, rows, errors)?;
+    let read = directive::data_head(s, Cursor { met: false, ..c }, k, rows);
+    let (d, x) = lifted(s, st, read, errors)?;
     let (e, y) = values(s, d, x, left, rows, errors)?;
     row::close(c, k, e, y, Kind::Data, false, rows)
 }

@@ -21,8 +21,7 @@ pub mod brace;
 pub mod expected;
 pub mod lift;
 pub mod quiet;
-pub mod row;
-pub mod start;
+mod row;
 pub mod stmt;
 pub mod text;
 

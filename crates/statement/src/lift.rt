@@ -8,11 +8,11 @@ use state::{Done, State};
 use table::Pos;
 
 // The answer of a reader that was called with no open comment met, and one note of what it met.
-pub fn lifted(s: &[u8], st: State, f: Read, errors: &mut [u32]) -> Done
+pub fn lifted(s: &[u8], st: State, read: Read, errors: &mut [u32]) -> Done
     requires { (length s.now ≤ max_text) × (st.errors < 2 ^ 32) }
-    ensures { Lifted (length s.now) f st errors.old errors.new result }
+    ensures { Lifted (length s.now) read st errors.old errors.new result }
 {
-    match f {
+    match read {
         Ok(d) => {
             let x = state::note(st, d.met, Pos(s.len()), errors);
             Ok((Cursor { met: false, ..d }, x))

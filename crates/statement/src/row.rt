@@ -1,11 +1,13 @@
 // The row around a statement.
-ghost use Rattle.std.specs.Prelude.{◌^◌, ◌<◌};
+ghost use Rattle.std.specs.Prelude.{◌+◌, ◌^◌, ◌<◌};
 ghost use Rattle.table.specs.Kinds.{kind_number};
-ghost use Rattle.statement.specs.Shapes.{Spans, Closed, Imported};
+ghost use Rattle.lexis.specs.Around.{Spans};
+ghost use Rattle.statement.specs.Shapes.{Closed, Imported};
 
 use cursor::{Cursor, Skip};
+use lexis::mark;
 use state::{Done, State};
-use table::{Kind, Pos, RowIndex};
+use table::{Kind, Pos};
 
 // From c to d, with the low k. A scope gets its number now.
 pub fn close(
@@ -17,29 +19,22 @@ pub fn close(
     scope: bool,
     rows: &mut [u32],
 ) -> Done
-    requires { Spans c k d st }
+    requires { Spans c k.at.0 d × (st.scope + 1 < 2 ^ 32) }
     ensures { Closed scope (kind_number kind) c k d st rows.old rows.new result }
 {
-    let n = d.count.0;
-    let size = n + 1 - c.count.0;
-    let end = Cursor {
-        at: d.at,
-        count: RowIndex(n + 1),
-        met: false,
-    };
     if scope {
         let number = st.scope + 1;
-        table::push_row(rows, d.count, kind, size, c.at, k.at, d.at, number);
+        let end = mark::around(c, k.at, d, kind, number, rows);
         return Ok((
-            end,
+            Cursor { met: false, ..end },
             State {
                 scope: number,
                 ..st
             },
         ));
     }
-    table::push_row(rows, d.count, kind, size, c.at, k.at, d.at, 0);
-    Ok((end, st))
+    let end = mark::around(c, k.at, d, kind, 0, rows);
+    Ok((Cursor { met: false, ..end }, st))
 }
 
 // An import's row, number and request: the file name stands from `low` to `high`.
@@ -53,8 +48,8 @@ pub fn import(
     rows: &mut [u32],
     requests: &mut [u32],
 ) -> Done
-    requires spans { Spans c k d st }
-    requires low_bound { (low.0 < 2 ^ 32) × (high.0 < 2 ^ 32) × (st.requests < 2 ^ 32) }
+    requires spans { Spans c k.at.0 d × (st.scope + 1 < 2 ^ 32) }
+    requires words { (low.0 < 2 ^ 32) × (high.0 < 2 ^ 32) × (st.requests < 2 ^ 32) }
     ensures { Imported low.0 high.0 c k d st rows.old rows.new requests.old requests.new result }
 {
     let (e, x) = close(c, k, d, st, Kind::Import, true, rows)?;

@@ -1,18 +1,64 @@
 // The cycle of statements and blocks.
-ghost use Rattle.std.specs.Prelude.{false, ◌^◌, ◌≤◌, ◌<◌, length};
+ghost use Rattle.std.specs.Prelude.{false, ◌≡◌, ◌^◌, ◌≤◌, ◌<◌, length};
 ghost use Rattle.reading.specs.Grammar.{◌▸◌, many0};
 ghost use Rattle.reading.specs.Rules.{opt, multiline_trivia, directive, expression, block, block_item, braces, label, macro_definition, import', statement};
 ghost use Rattle.cursor.specs.Text.{Skips};
 ghost use Rattle.table.specs.Kinds.{kind_number};
 ghost use Rattle.state.specs.Acts.{Fit, Does, tables};
-ghost use Rattle.statement.specs.Shapes.{body_of, closing, Headed, Ends};
+ghost use Rattle.statement.specs.Shapes.{optional, body_of, closing, Headed, Ends};
 ghost use Rattle.statement.specs.Heads.{from_macro, from_loop, from_import};
 ghost use Rattle.head.specs.Heads.{directive_of};
 
-use crate::{Body, brace, quiet, row, start, text};
+use crate::lift::lifted;
+use crate::{Body, brace, quiet, row, text};
 use cursor::{Cursor, Skip, Stop};
+use lexis::mark;
 use state::{Done, State};
-use table::{Kind, Pos, RowIndex};
+use table::{Kind, Pos};
+
+// What stands behind a statement's head, the kind of the row around it all, and whether that row takes a scope number.
+#[derive(Clone, Copy)]
+struct Form {
+    body: Body,
+    kind: Kind,
+    scope: bool,
+}
+
+const LABEL: Form = Form {
+    body: Body::Maybe,
+    kind: Kind::Label,
+    scope: false,
+};
+
+const MACRO: Form = Form {
+    body: Body::Block,
+    kind: Kind::MacroDefinition,
+    scope: false,
+};
+
+const SEGMENT: Form = Form {
+    body: Body::Maybe,
+    kind: Kind::Segment,
+    scope: false,
+};
+
+const LOOP: Form = Form {
+    body: Body::Block,
+    kind: Kind::Loop,
+    scope: true,
+};
+
+const IF: Form = Form {
+    body: Body::Branches,
+    kind: Kind::If,
+    scope: false,
+};
+
+const TEST: Form = Form {
+    body: Body::Block,
+    kind: Kind::Test,
+    scope: false,
+};
 
 // A statement or error text.
 #[cycle(statement)]
@@ -26,7 +72,7 @@ fn item(
     requests: &mut [u32],
 ) -> Done
     requires fit { Fit 0 s.now c st }
-    requires le_at { 1 ≤ c.at.0 }
+    requires behind { 1 ≤ c.at.0 }
     ensures { Does block_item s.now c st left (tables rows.old errors.old requests.old) (tables rows.new errors.new requests.new) result }
 {
     let x = match statement(s, c, st, left, rows, errors, requests) {
@@ -47,7 +93,7 @@ fn items(
     requests: &mut [u32],
 ) -> Done
     requires fit { Fit 0 s.now c st }
-    requires le_at { 1 ≤ c.at.0 }
+    requires behind { 1 ≤ c.at.0 }
     ensures { Does (many0 block_item) s.now c st left (tables rows.old errors.old requests.old) (tables rows.new errors.new requests.new) result }
 {
     let mut next = c;
@@ -88,23 +134,8 @@ fn braced(
     let low = Pos(d.at.0 - 1);
     let (e, y) = items(s, d, x, left - 1, rows, errors, requests)?;
     let (j, z) = brace::close(s, e, y, c.at, low, rows, errors)?;
-    let n = j.count.0;
-    table::push_row(
-        rows,
-        j.count,
-        Kind::Block,
-        n + 1 - c.count.0,
-        c.at,
-        low,
-        j.at,
-        0,
-    );
-    let end = Cursor {
-        at: j.at,
-        count: RowIndex(n + 1),
-        met: false,
-    };
-    Ok((end, z))
+    let end = mark::around(c, low, j, Kind::Block, 0, rows);
+    Ok((Cursor { met: false, ..end }, z))
 }
 
 #[cycle(statement)]
@@ -124,6 +155,16 @@ fn block(
     braced(s, c, k, st, left, rows, errors, requests)
 }
 
+// What was tried from `c` on may be missing.
+fn optional(c: Cursor, done: Done) -> Done
+    ensures { result ≡ optional c done }
+{
+    match done {
+        Err(Stop::Miss(x)) => Ok((Cursor { met: false, ..c }, x)),
+        done => done,
+    }
+}
+
 // A block or nothing.
 #[cycle(statement)]
 fn maybe(
@@ -138,11 +179,8 @@ fn maybe(
     requires { Fit 0 s.now c st }
     ensures { Does (opt block) s.now c st left (tables rows.old errors.old requests.old) (tables rows.new errors.new requests.new) result }
 {
-    let x = match block(s, c, st, left, rows, errors, requests) {
-        Err(Stop::Miss(x)) => x,
-        done => return done,
-    };
-    Ok((Cursor { met: false, ..c }, x))
+    let done = block(s, c, st, left, rows, errors, requests);
+    optional(c, done)
 }
 
 // `else` and its block.
@@ -159,7 +197,9 @@ fn other(
     requires { Fit 0 s.now c st }
     ensures { Does (directive "else" ▸ block) s.now c st left (tables rows.old errors.old requests.old) (tables rows.new errors.new requests.new) result }
 {
-    let (d, x) = start::else_head(s, c, st, rows, errors)?;
+    let k = trivia::multiline_trivia(s, c.at, false);
+    let read = head::directive::else_head(s, Cursor { met: false, ..c }, k, rows);
+    let (d, x) = lifted(s, st, read, errors)?;
     block(s, d, x, left, rows, errors, requests)
 }
 
@@ -178,11 +218,8 @@ fn branches(
     ensures { Does (block ▸ opt (directive "else" ▸ block)) s.now c st left (tables rows.old errors.old requests.old) (tables rows.new errors.new requests.new) result }
 {
     let (d, x) = block(s, c, st, left, rows, errors, requests)?;
-    let y = match other(s, d, x, left, rows, errors, requests) {
-        Err(Stop::Miss(y)) => y,
-        done => return done,
-    };
-    Ok((Cursor { met: false, ..d }, y))
+    let done = other(s, d, x, left, rows, errors, requests);
+    optional(d, done)
 }
 
 #[cycle(statement)]
@@ -213,9 +250,7 @@ fn rest(
     c: Cursor,
     k: Skip,
     h: Done,
-    b: Body,
-    kind: Kind,
-    scope: bool,
+    form: Form,
     left: usize,
     rows: &mut [u32],
     errors: &mut [u32],
@@ -223,11 +258,11 @@ fn rest(
 ) -> Done
     requires skips { Skips multiline_trivia s.now c.at.0 false k }
     requires headed { Headed s.now c h }
-    ensures { Ends b scope (kind_number kind) s.now c k h left (tables rows.old errors.old requests.old) (tables rows.new errors.new requests.new) result }
+    ensures { Ends form.body form.scope (kind_number form.kind) s.now c k h left (tables rows.old errors.old requests.old) (tables rows.new errors.new requests.new) result }
 {
     let (d, x) = h?;
-    let (e, y) = body(s, d, b, x, left, rows, errors, requests)?;
-    row::close(c, k, e, y, kind, scope, rows)
+    let (e, y) = body(s, d, form.body, x, left, rows, errors, requests)?;
+    row::close(c, k, e, y, form.kind, form.scope, rows)
 }
 
 // A statement of a directive and an expression.
@@ -237,9 +272,7 @@ fn directive(
     c: Cursor,
     k: Skip,
     word: &[u8],
-    b: Body,
-    kind: Kind,
-    scope: bool,
+    form: Form,
     st: State,
     left: usize,
     rows: &mut [u32],
@@ -248,10 +281,12 @@ fn directive(
 ) -> Done
     requires fit { Fit 0 s.now c st }
     requires skips { Skips multiline_trivia s.now c.at.0 false k × (1 ≤ length word.now) }
-    ensures { Does (closing scope (kind_number kind) (directive_of word.now) (expression ▸ body_of b)) s.now c st left (tables rows.old errors.old requests.old) (tables rows.new errors.new requests.new) result }
+    ensures { Does (closing form.scope (kind_number form.kind) (directive_of word.now) (expression ▸ body_of form.body)) s.now c st left (tables rows.old errors.old requests.old) (tables rows.new errors.new requests.new) result }
 {
-    let h = start::directive_head(s, c, k, word, st, left, rows, errors);
-    rest(s, c, k, h, b, kind, scope, left, rows, errors, requests)
+    let start = Cursor { met: false, ..c };
+    let read = head::directive::directive_expression(s, start, k, word, left, rows);
+    let h = lifted(s, st, read, errors);
+    rest(s, c, k, h, form, left, rows, errors, requests)
 }
 
 #[cycle(statement)]
@@ -288,20 +323,9 @@ fn label(
     requires skips { Skips multiline_trivia s.now c.at.0 false k }
     ensures { Does label s.now c st left (tables rows.old errors.old requests.old) (tables rows.new errors.new requests.new) result }
 {
-    let h = start::label_head(s, c, k, st, rows, errors);
-    rest(
-        s,
-        c,
-        k,
-        h,
-        Body::Maybe,
-        Kind::Label,
-        false,
-        left,
-        rows,
-        errors,
-        requests,
-    )
+    let read = head::definition::label_head(s, Cursor { met: false, ..c }, k, rows);
+    let h = lifted(s, st, read, errors);
+    rest(s, c, k, h, LABEL, left, rows, errors, requests)
 }
 
 #[cycle(statement)]
@@ -319,20 +343,9 @@ fn macro_of(
     requires skips { Skips multiline_trivia s.now c.at.0 false k }
     ensures { Does macro_definition s.now c st left (tables rows.old errors.old requests.old) (tables rows.new errors.new requests.new) result }
 {
-    let h = start::macro_head(s, c, k, st, rows, errors);
-    rest(
-        s,
-        c,
-        k,
-        h,
-        Body::Block,
-        Kind::MacroDefinition,
-        false,
-        left,
-        rows,
-        errors,
-        requests,
-    )
+    let read = head::definition::macro_head(s, Cursor { met: false, ..c }, k, rows);
+    let h = lifted(s, st, read, errors);
+    rest(s, c, k, h, MACRO, left, rows, errors, requests)
 }
 
 #[cycle(statement)]
@@ -350,9 +363,11 @@ fn import(
     requires skips { Skips multiline_trivia s.now c.at.0 false k }
     ensures { Does import' s.now c st left (tables rows.old errors.old requests.old) (tables rows.new errors.new requests.new) result }
 {
-    let (d, x) = start::import_head(s, c, k, st, rows, errors)?;
+    let read = head::import::import_head(s, Cursor { met: false, ..c }, k, rows);
+    let (d, x) = lifted(s, st, read, errors)?;
     let quote = trivia::trivia(s, d.at, false);
-    let (e, y) = start::import_file(s, d, x, rows, errors)?;
+    let read = head::import::import_file(s, Cursor { met: false, ..d }, rows);
+    let (e, y) = lifted(s, x, read, errors)?;
     let high = Pos(e.at.0 - 1);
     let (j, z) = maybe(s, e, y, left, rows, errors, requests)?;
     row::import(c, k, j, z, quote.at, high, rows, requests)
@@ -382,20 +397,7 @@ fn fourth(
         Err(Stop::Miss(st)) => st,
         done => return done,
     };
-    let st = match directive(
-        s,
-        c,
-        k,
-        b".test",
-        Body::Block,
-        Kind::Test,
-        false,
-        st,
-        left,
-        rows,
-        errors,
-        requests,
-    ) {
+    let st = match directive(s, c, k, b".test", TEST, st, left, rows, errors, requests) {
         Err(Stop::Miss(st)) => st,
         done => return done,
     };
@@ -418,41 +420,16 @@ fn third(
     requires skips { Skips multiline_trivia s.now c.at.0 false k }
     ensures { Does from_loop s.now c st left (tables rows.old errors.old requests.old) (tables rows.new errors.new requests.new) result }
 {
-    let st = match directive(
-        s,
-        c,
-        k,
-        b".loop",
-        Body::Block,
-        Kind::Loop,
-        true,
-        st,
-        left,
-        rows,
-        errors,
-        requests,
-    ) {
+    let st = match directive(s, c, k, b".loop", LOOP, st, left, rows, errors, requests) {
         Err(Stop::Miss(st)) => st,
         done => return done,
     };
-    let st = match directive(
-        s,
-        c,
-        k,
-        b".if",
-        Body::Branches,
-        Kind::If,
-        false,
-        st,
-        left,
-        rows,
-        errors,
-        requests,
-    ) {
+    let st = match directive(s, c, k, b".if", IF, st, left, rows, errors, requests) {
         Err(Stop::Miss(st)) => st,
         done => return done,
     };
-    let st = match quiet::align(s, c, k, st, left, rows, errors) {
+    let read = head::directive::align(s, Cursor { met: false, ..c }, k, left, rows);
+    let st = match lifted(s, st, read, errors) {
         Err(Stop::Miss(st)) => st,
         done => return done,
     };
@@ -488,9 +465,7 @@ fn second(
         c,
         k,
         b".segment",
-        Body::Maybe,
-        Kind::Segment,
-        false,
+        SEGMENT,
         st,
         left,
         rows,

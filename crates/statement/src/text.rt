@@ -8,7 +8,7 @@ ghost use Rattle.statement.specs.Shapes.{error_of};
 use crate::lift::lifted;
 use cursor::Cursor;
 use lexis::mark;
-use state::{Done, State};
+use state::{Done, ErrorCode, State};
 use table::{Kind, Pos};
 use trivia::class::Class;
 
@@ -25,7 +25,7 @@ fn error_text(
     ensures { TellsLeaf (error_of (bit_of class)) s.now c st rows.old rows.new errors.old errors.new result }
 {
     let k = trivia::multiline_trivia(s, c.at, false);
-    let f = mark::run(
+    let read = mark::run(
         s,
         Cursor { met: false, ..c },
         k,
@@ -34,8 +34,8 @@ fn error_text(
         Kind::Error,
         rows,
     );
-    let (d, x) = lifted(s, st, f, errors)?;
-    let y = state::report(x, 2, k.at, d.at, errors);
+    let (d, x) = lifted(s, st, read, errors)?;
+    let y = state::report(x, ErrorCode::UnexpectedText, k.at, d.at, errors);
     Ok((d, y))
 }
 
@@ -59,7 +59,7 @@ pub fn eof(s: &[u8], c: Cursor, st: State, rows: &mut [u32], errors: &mut [u32])
     ensures { TellsLeaf eof s.now c st rows.old rows.new errors.old errors.new result }
 {
     let k = trivia::multiline_trivia(s, c.at, false);
-    let f = mark::row(
+    let read = mark::row(
         Cursor { met: false, ..c },
         k,
         Pos(s.len()),
@@ -67,5 +67,5 @@ pub fn eof(s: &[u8], c: Cursor, st: State, rows: &mut [u32], errors: &mut [u32])
         0,
         rows,
     );
-    lifted(s, st, f, errors)
+    lifted(s, st, read, errors)
 }

@@ -1,5 +1,7 @@
 -- A report that meets the flag is lost, and any other is kept.
 use Rattle.state.proofs.Reports.{report_lost, report_kept}
+use mathlib.Core.Path.{sym}
+use Rattle.state.specs.Codes.{code_number}
 use Rattle.state.proofs.report.Goals as goal
 
 pub returns-then-st : goal.returns-then-st
@@ -8,4 +10,5 @@ returns-then-st c = report_lost _ _ _ c.if-st.true
 pub returns : goal.returns
 returns c =
     let args = c.args in
-    report_kept (record { code = args.code; low = args.low.0; high = args.high.0 }) args.st _ c.if-st.false c.push_error.ensures
+    report_kept (record { code = code_number args.code; low = args.low.0; high = args.high.0 }) args.st _ c.if-st.false
+    (rw (sym c.number.ensures) c.push_error.ensures)

@@ -6,4 +6,4 @@ pub lifted-requires : goal.lifted-requires
 lifted-requires c = fit_lifts c.requires.fit
 
 pub returns : goal.returns
-returns c = mark_tells c.requires.fit c.requires.skips c.lifted.ensures _ c.char-f.ensures
+returns c = mark_tells c.requires.fit c.requires.skips c.lifted.ensures _ c.char-read.ensures

@@ -1,28 +1,18 @@
-use mathlib.Core.Path.{ap, ◌∙◌}
-use Rattle.std.specs.Prelude.{Err}
-use Rattle.statement.proofs.Lifts.{lift, fit_lifts}
-use Rattle.statement.proofs.Tests.{head_quiet, missing_sober}
-use Rattle.statement.proofs.Quiets.{tells_expect, tells_missing}
-use Rattle.statement.proofs.Chains.{fit_next}
-use Rattle.state.proofs.Bounds.{fit_errors}
 use native.Mathlib.Omega.{arith}
-use mathlib.Core.List.{[]}
+use Rattle.state.proofs.Bounds.{fit_errors}
+use Rattle.statement.proofs.Lifts.{fit_lifts}
+use Rattle.statement.proofs.Quiets.{tells_expected, tried, tried_fit}
+use Rattle.statement.proofs.Tests.{missing_calm}
 use Rattle.statement.proofs.expected.map.Goals as goal
 
-pub lifted-requires : goal.lifted-requires
-lifted-requires c = fit_lifts c.requires
+pub lifted-done-requires : goal.lifted-done-requires
+lifted-done-requires c = fit_lifts c.requires
 
-pub returns-in_default : goal.returns-in_default
-returns-in_default c = tells_expect (lift head_quiet.6 c.requires.within c.in_default.ensures c.config_map-f.ensures) 4 (λ m e. grind arith)
-
-pub returns-in_default-2 : goal.returns-in_default-2
-returns-in_default-2 c = tells_expect (lift head_quiet.6 c.requires.within c.lifted.ensures c.config_map-f.ensures) 4 (λ m e. grind arith)
-
-pub report-y-requires : goal.report-y-requires
-report-y-requires c =
-    let f = fit_next ((lift head_quiet.6 c.requires.within c.lifted.ensures c.config_map-f.ensures).does []) c.requires missing_sober.0 c.in-Err-Miss.x
-    (c.in-Err-Miss.is ∙ ap Err c.in-Err-Miss.field-0-is) in
-    let k = fit_errors f in omega (arith, c.requires.small, c.requires.within, k)
+pub expected-requires-clause-room : goal.expected-requires-clause-room
+expected-requires-clause-room c =
+    λ x z.
+    let k = fit_errors (tried_fit missing_calm.0 c.requires c.lifted-done.ensures c.config_map-read.ensures x z) in
+    omega (arith, c.requires.small, c.requires.within, k)
 
 pub returns : goal.returns
-returns c = tells_missing (lift head_quiet.6 c.requires.within c.lifted.ensures c.config_map-f.ensures) 4 c.in-Err-Miss.x (c.in-Err-Miss.is ∙ ap Err c.in-Err-Miss.field-0-is) c.report-y.ensures
+returns c = tells_expected (tried missing_calm.0 c.requires c.lifted-done.ensures c.config_map-read.ensures) 4 c.expected.ensures

@@ -1,20 +1,25 @@
 use mathlib.Core.Path.{ap, ◌∙◌}
 use Rattle.std.specs.Prelude.{Err}
 use native.Mathlib.Omega.{arith}
-use Rattle.statement.proofs.Quiets.{tells_first, tells_next}
-use Rattle.statement.proofs.Chains.{fit_next}
-use Rattle.statement.proofs.Tests.{quiet_sober}
-use mathlib.Core.List.{[]}
+use Rattle.statement.proofs.Lifts.{fit_lifts}
+use Rattle.statement.proofs.Quiets.{tried_fit, tried_first, tried_next}
+use Rattle.statement.proofs.Tests.{statement_calm}
 use Rattle.statement.proofs.quiet.calls.Goals as goal
 
+pub lifted-requires : goal.lifted-requires
+lifted-requires c = fit_lifts c.requires.fit
+
 pub returns-in_default : goal.returns-in_default
-returns-in_default c = tells_first c.in_default.ensures (λ m e. grind arith)
+returns-in_default c =
+    tried_first statement_calm.4 c.requires.fit c.in_default.ensures c.macro_invocation-read.ensures (λ m e. grind arith)
 
 pub returns-in_default-2 : goal.returns-in_default-2
-returns-in_default-2 c = tells_first c.invoke.ensures (λ m e. grind arith)
+returns-in_default-2 c =
+    tried_first statement_calm.4 c.requires.fit c.lifted.ensures c.macro_invocation-read.ensures (λ m e. grind arith)
 
 pub data-requires-clause-fit : goal.data-requires-clause-fit
-data-requires-clause-fit c = fit_next (c.invoke.ensures.does []) c.requires.fit quiet_sober.4 c.in-Err-Miss.st (c.in-Err-Miss.is ∙ ap Err c.in-Err-Miss.field-0-is)
+data-requires-clause-fit c = (tried_fit statement_calm.4 c.requires.fit c.lifted.ensures c.macro_invocation-read.ensures c.in-Err-Miss.st (c.in-Err-Miss.is ∙ ap Err c.in-Err-Miss.field-0-is))
 
 pub returns : goal.returns
-returns c = tells_next c.invoke.ensures c.in-Err-Miss.st (c.in-Err-Miss.is ∙ ap Err c.in-Err-Miss.field-0-is) c.«data».ensures
+returns c =
+    tried_next statement_calm.4 c.requires.fit c.lifted.ensures c.macro_invocation-read.ensures c.in-Err-Miss.st (c.in-Err-Miss.is ∙ ap Err c.in-Err-Miss.field-0-is) λ fit. c.«data».ensures

@@ -8,11 +8,12 @@ use Rattle.reading.specs.Rules.{block_item}
 use Rattle.state.proofs.Blocks.{ended}
 use Rattle.state.proofs.Items.{walking_none, walking_less, walking_more, walking_end, walking_deep}
 use Rattle.head.specs.Heads.{label_head, macro_head}
-use Rattle.statement.proofs.Lifts.{headed, spans}
-use Rattle.statement.proofs.Tests.{block_paid, body_paid, maybe_paid, item_paid, item_moves, label_paid, macro_paid, import_paid, else_paid, quoted_paid, quoted_moves, statement_sober, first_sober, second_sober, third_sober, fourth_sober}
+use Rattle.statement.proofs.Lifts.{lift, lift_flat, fit_lifts, fit_ready, headed, spans}
+use Rattle.statement.proofs.Tests.{head_quiet, directive_quiet, statement_calm, block_paid, body_paid, maybe_paid, item_paid, item_moves, label_paid, macro_paid, import_paid, else_paid, quoted_paid, quoted_moves, statement_sober, first_sober, second_sober, third_sober, fourth_sober}
+use Rattle.statement.proofs.Quiets.{tried, tried_fit}
 use Rattle.statement.proofs.Tails.{ends_out, ends_body, ends_got, directive_headed}
 use Rattle.statement.proofs.Parts.{braces_out, braces_got, label_ends, directive_ends, macro_ends, import_head_out, import_name_out, import_block_out, import_all}
-use Rattle.statement.proofs.Chains.{does_first, does_next, does_out, does_then, does_opt, does_none, fit_then, fit_next, grown_then, moved_then, statement_is, second_is, third_is, fourth_is, segment_is, loop_is, if_is, test_is}
+use Rattle.statement.proofs.Chains.{does_first, does_next, does_out, does_then, does_optional, fit_then, fit_next, grown_then, moved_then, statement_is, second_is, third_is, fourth_is, segment_is, loop_is, if_is, test_is}
 use Rattle.statement.proofs.Chains.{body_maybe, body_block, body_branches, item_first, item_error, block_no_brace, block_too_deep, brace_fit, brace_at, brace_grown, block_items_out, block_end_out, block_whole, items_fit, items_grown}
 use Rattle.statement.proofs.stmt.+statement.Goals as goal
 
@@ -34,16 +35,13 @@ pub braced-returns-then-left-eq0 : goal.braced-returns-then-left-eq0
 braced-returns-then-left-eq0 t c = block_too_deep c.in_ok-d.ensures c.in_ok-d.d c.in_ok-d.x refl c.if-left-eq0.true
 
 pub braced-overflow_sub-low : goal.braced-overflow_sub-low
-braced-overflow_sub-low t c =
-    let bf = brace_fit c.in_ok-d.ensures c.requires.fit c.in_ok-d.d c.in_ok-d.x refl in
-    let ba = brace_at c.in_ok-d.ensures c.requires.fit c.in_ok-d.d c.in_ok-d.x refl in let bg = brace_grown c.in_ok-d.ensures c.requires.fit
-    c.in_ok-d.d c.in_ok-d.x refl in omega (arith, ba)
+braced-overflow_sub-low t c = let ba = brace_at c.in_ok-d.ensures c.requires.fit c.in_ok-d.d c.in_ok-d.x refl in omega (arith, ba)
 
 pub braced-items-requires : goal.braced-items-requires
 braced-items-requires t c =
     let bf = brace_fit c.in_ok-d.ensures c.requires.fit c.in_ok-d.d c.in_ok-d.x refl in
-    let ba = brace_at c.in_ok-d.ensures c.requires.fit c.in_ok-d.d c.in_ok-d.x refl in let bg = brace_grown c.in_ok-d.ensures c.requires.fit
-    c.in_ok-d.d c.in_ok-d.x refl in (omega (arith, c.if-left-eq0.false), (bf, omega (arith, ba)))
+    let ba = brace_at c.in_ok-d.ensures c.requires.fit c.in_ok-d.d c.in_ok-d.x refl in
+    (omega (arith, c.if-left-eq0.false), (bf, omega (arith, ba)))
 
 pub braced-returns-in_err-e : goal.braced-returns-in_err-e
 braced-returns-in_err-e t c =
@@ -51,67 +49,42 @@ braced-returns-in_err-e t c =
     rw (p.1, p.2) (block_items_out c.in_ok-d.ensures c.in_ok-d.d c.in_ok-d.x refl c.if-left-eq0.false c.in_err-e.ensures refl)
 
 pub braced-close-requires-clause-fit : goal.braced-close-requires-clause-fit
-braced-close-requires-clause-fit t c =
-    let bf = brace_fit c.in_ok-d.ensures c.requires.fit c.in_ok-d.d c.in_ok-d.x refl in
-    let ba = brace_at c.in_ok-d.ensures c.requires.fit c.in_ok-d.d c.in_ok-d.x refl in let bg = brace_grown c.in_ok-d.ensures c.requires.fit
-    c.in_ok-d.d c.in_ok-d.x refl in let jf = items_fit bf c.in_ok-e.ensures c.in_ok-e.e c.in_ok-e.y refl in let jg = items_grown bf
-    c.in_ok-e.ensures c.in_ok-e.e c.in_ok-e.y refl in jf
+braced-close-requires-clause-fit t c = items_fit (brace_fit c.in_ok-d.ensures c.requires.fit c.in_ok-d.d c.in_ok-d.x refl) c.in_ok-e.ensures c.in_ok-e.e c.in_ok-e.y refl
 
-pub braced-close-requires-clause-tlow_in_bounds : goal.braced-close-requires-clause-tlow_in_bounds
-braced-close-requires-clause-tlow_in_bounds t c =
+pub braced-close-requires-clause-in_text : goal.braced-close-requires-clause-in_text
+braced-close-requires-clause-in_text t c =
     let bf = brace_fit c.in_ok-d.ensures c.requires.fit c.in_ok-d.d c.in_ok-d.x refl in
-    let ba = brace_at c.in_ok-d.ensures c.requires.fit c.in_ok-d.d c.in_ok-d.x refl in let bg = brace_grown c.in_ok-d.ensures c.requires.fit
-    c.in_ok-d.d c.in_ok-d.x refl in let jf = items_fit bf c.in_ok-e.ensures c.in_ok-e.e c.in_ok-e.y refl in let jg = items_grown bf
-    c.in_ok-e.ensures c.in_ok-e.e c.in_ok-e.y refl in (c.requires.fit.within, omega (arith, bf.within, ba))
+    let ba = brace_at c.in_ok-d.ensures c.requires.fit c.in_ok-d.d c.in_ok-d.x refl in
+    (c.requires.fit.within, omega (arith, bf.within, ba))
 
 pub braced-returns-in_err-j : goal.braced-returns-in_err-j
 braced-returns-in_err-j t c =
     let p = err_from_is_err_and c.from_residual-in_err-j.result c.from_residual-in_err-j.ensures.1 in
-    rw (p.1, p.2) (let bf = brace_fit c.in_ok-d.ensures c.requires.fit c.in_ok-d.d c.in_ok-d.x refl in
-    let ba = brace_at c.in_ok-d.ensures c.requires.fit c.in_ok-d.d c.in_ok-d.x refl in let bg = brace_grown c.in_ok-d.ensures c.requires.fit
-    c.in_ok-d.d c.in_ok-d.x refl in block_end_out c.in_ok-d.ensures c.in_ok-d.d c.in_ok-d.x refl c.if-left-eq0.false c.in_ok-e.ensures
+    let ba = brace_at c.in_ok-d.ensures c.requires.fit c.in_ok-d.d c.in_ok-d.x refl in
+    rw (p.1, p.2) (block_end_out c.in_ok-d.ensures c.in_ok-d.d c.in_ok-d.x refl c.if-left-eq0.false c.in_ok-e.ensures
     (omega (arith, ba)) c.in_ok-e.e c.in_ok-e.y refl c.in_err-j.ensures refl)
 
-pub braced-overflow_add-n : goal.braced-overflow_add-n
-braced-overflow_add-n t c =
+pub braced-around-end-requires-clause-spans : goal.braced-around-end-requires-clause-spans
+braced-around-end-requires-clause-spans t c =
     let bf = brace_fit c.in_ok-d.ensures c.requires.fit c.in_ok-d.d c.in_ok-d.x refl in
-    let ba = brace_at c.in_ok-d.ensures c.requires.fit c.in_ok-d.d c.in_ok-d.x refl in let bg = brace_grown c.in_ok-d.ensures c.requires.fit
-    c.in_ok-d.d c.in_ok-d.x refl in let jf = items_fit bf c.in_ok-e.ensures c.in_ok-e.e c.in_ok-e.y refl in let jg = items_grown bf
-    c.in_ok-e.ensures c.in_ok-e.e c.in_ok-e.y refl in let en = ended jf.within c.in_ok-j.ensures c.in_ok-j.j c.in_ok-j.z refl in
-    omega (arith, c.requires.fit.small, c.requires.fit.within, bf.within, ba, bg, jf.few, jf.within, jg, en.on, en.within, en.count)
-
-pub braced-overflow_sub-n : goal.braced-overflow_sub-n
-braced-overflow_sub-n t c =
-    let bf = brace_fit c.in_ok-d.ensures c.requires.fit c.in_ok-d.d c.in_ok-d.x refl in
-    let ba = brace_at c.in_ok-d.ensures c.requires.fit c.in_ok-d.d c.in_ok-d.x refl in let bg = brace_grown c.in_ok-d.ensures c.requires.fit
-    c.in_ok-d.d c.in_ok-d.x refl in let jf = items_fit bf c.in_ok-e.ensures c.in_ok-e.e c.in_ok-e.y refl in let jg = items_grown bf
-    c.in_ok-e.ensures c.in_ok-e.e c.in_ok-e.y refl in let en = ended jf.within c.in_ok-j.ensures c.in_ok-j.j c.in_ok-j.z refl in
-    omega (arith, c.requires.fit.small, c.requires.fit.within, bf.within, ba, bg, jf.few, jf.within, jg, en.on, en.within, en.count)
-
-pub braced-push_row-requires : goal.braced-push_row-requires
-braced-push_row-requires t c =
-    let bf = brace_fit c.in_ok-d.ensures c.requires.fit c.in_ok-d.d c.in_ok-d.x refl in
-    let ba = brace_at c.in_ok-d.ensures c.requires.fit c.in_ok-d.d c.in_ok-d.x refl in let bg = brace_grown c.in_ok-d.ensures c.requires.fit
-    c.in_ok-d.d c.in_ok-d.x refl in let jf = items_fit bf c.in_ok-e.ensures c.in_ok-e.e c.in_ok-e.y refl in let jg = items_grown bf
-    c.in_ok-e.ensures c.in_ok-e.e c.in_ok-e.y refl in let en = ended jf.within c.in_ok-j.ensures c.in_ok-j.j c.in_ok-j.z refl in
-    omega (arith, c.requires.fit.small, c.requires.fit.within, bf.within, ba, bg, jf.few, jf.within, jg, en.on, en.within, en.count)
-
-pub braced-overflow_add-end : goal.braced-overflow_add-end
-braced-overflow_add-end t c =
-    let bf = brace_fit c.in_ok-d.ensures c.requires.fit c.in_ok-d.d c.in_ok-d.x refl in
-    let ba = brace_at c.in_ok-d.ensures c.requires.fit c.in_ok-d.d c.in_ok-d.x refl in let bg = brace_grown c.in_ok-d.ensures c.requires.fit
-    c.in_ok-d.d c.in_ok-d.x refl in let jf = items_fit bf c.in_ok-e.ensures c.in_ok-e.e c.in_ok-e.y refl in let jg = items_grown bf
-    c.in_ok-e.ensures c.in_ok-e.e c.in_ok-e.y refl in let en = ended jf.within c.in_ok-j.ensures c.in_ok-j.j c.in_ok-j.z refl in
-    omega (arith, c.requires.fit.small, c.requires.fit.within, bf.within, ba, bg, jf.few, jf.within, jg, en.on, en.within, en.count)
+    let ba = brace_at c.in_ok-d.ensures c.requires.fit c.in_ok-d.d c.in_ok-d.x refl in
+    let bg = brace_grown c.in_ok-d.ensures c.requires.fit c.in_ok-d.d c.in_ok-d.x refl in
+    let jf = items_fit bf c.in_ok-e.ensures c.in_ok-e.e c.in_ok-e.y refl in
+    let jg = items_grown bf c.in_ok-e.ensures c.in_ok-e.e c.in_ok-e.y refl in
+    let en = ended jf.within c.in_ok-j.ensures c.in_ok-j.j c.in_ok-j.z refl in
+    record {
+      grown = omega (arith, bg, jg, en.count);
+      few = omega (arith, jf.small, jf.within, jf.few, en.count);
+      start = omega (arith, bf.small, bf.within, ba);
+      body = omega (arith, bf.small, bf.within);
+      end = omega (arith, jf.small, en.within);
+    }
 
 pub braced-returns : goal.braced-returns
 braced-returns t c =
-    let bf = brace_fit c.in_ok-d.ensures c.requires.fit c.in_ok-d.d c.in_ok-d.x refl in
-    let ba = brace_at c.in_ok-d.ensures c.requires.fit c.in_ok-d.d c.in_ok-d.x refl in let bg = brace_grown c.in_ok-d.ensures c.requires.fit
-    c.in_ok-d.d c.in_ok-d.x refl in let jf = items_fit bf c.in_ok-e.ensures c.in_ok-e.e c.in_ok-e.y refl in let jg = items_grown bf
-    c.in_ok-e.ensures c.in_ok-e.e c.in_ok-e.y refl in let en = ended jf.within c.in_ok-j.ensures c.in_ok-j.j c.in_ok-j.z refl in
+    let ba = brace_at c.in_ok-d.ensures c.requires.fit c.in_ok-d.d c.in_ok-d.x refl in
     block_whole c.in_ok-d.ensures c.in_ok-d.d c.in_ok-d.x refl c.if-left-eq0.false c.in_ok-e.ensures (omega (arith, ba)) c.in_ok-e.e c.in_ok-e.y
-    refl c.in_ok-j.ensures c.in_ok-j.j c.in_ok-j.z refl (omega (arith, bg, jg, en.count)) c.push_row.ensures
+    refl c.in_ok-j.ensures c.in_ok-j.j c.in_ok-j.z refl c.around-end.ensures
 
 pub braces-returns-in_err-d : goal.braces-returns-in_err-d
 braces-returns-in_err-d t c =
@@ -134,24 +107,24 @@ branches-returns-in_err-d t c =
     let p = err_from_is_err_and c.from_residual.result c.from_residual.ensures.1 in
     rw (p.1, p.2) (does_out c.in_err-d.ensures refl)
 
-pub branches-other-requires : goal.branches-other-requires
-branches-other-requires t c = (omega arith, fit_then c.in_ok-d.ensures c.requires block_paid c.in_ok-d.d c.in_ok-d.x refl)
-
-pub branches-returns-in_default : goal.branches-returns-in_default
-branches-returns-in_default t c = does_then c.in_ok-d.ensures c.in_ok-d.d c.in_ok-d.x refl (does_opt c.in_default.ensures (λ m e. grind arith))
-
-pub branches-returns-in_default-2 : goal.branches-returns-in_default-2
-branches-returns-in_default-2 t c = does_then c.in_ok-d.ensures c.in_ok-d.d c.in_ok-d.x refl (does_opt c.other.ensures (λ m e. grind arith))
+pub branches-other-done-requires : goal.branches-other-done-requires
+branches-other-done-requires t c = (omega arith, fit_then c.in_ok-d.ensures c.requires block_paid c.in_ok-d.d c.in_ok-d.x refl)
 
 pub branches-returns : goal.branches-returns
-branches-returns t c = does_then c.in_ok-d.ensures c.in_ok-d.d c.in_ok-d.x refl (does_none c.other.ensures c.in-Err-Miss.y (c.in-Err-Miss.is ∙ ap Err c.in-Err-Miss.field-0-is))
+branches-returns t c = does_then c.in_ok-d.ensures c.in_ok-d.d c.in_ok-d.x refl (does_optional c.other-done.ensures c.optional.ensures)
+
+pub directive-lifted-h-requires : goal.directive-lifted-h-requires
+directive-lifted-h-requires t c = fit_lifts c.requires.fit
 
 pub directive-rest-requires : goal.directive-rest-requires
 directive-rest-requires t c =
-    (omega arith, (c.requires.skips.0, directive_headed _ c.requires.skips.1 c.requires.fit (c.directive_head-h.ensures.does [])))
+    let h = lift (directive_quiet _) c.requires.fit.within c.lifted-h.ensures c.directive_expression-read.ensures in
+    (omega arith, (c.requires.skips.0, directive_headed _ c.requires.skips.1 c.requires.fit (h.does [])))
 
 pub directive-returns : goal.directive-returns
-directive-returns t c = directive_ends c.requires.skips.0 _ (c.directive_head-h.ensures.does _) c.rest.ensures
+directive-returns t c =
+    let h = lift (directive_quiet _) c.requires.fit.within c.lifted-h.ensures c.directive_expression-read.ensures in
+    directive_ends c.requires.skips.0 _ (h.does _) c.rest.ensures
 
 pub fourth-returns-in_default : goal.fourth-returns-in_default
 fourth-returns-in_default t c = fourth_is (does_first c.in_default.ensures (λ m e. grind arith))
@@ -197,94 +170,113 @@ fourth-returns t c =
     (does_next (c.texts.ensures.does _) c.in-Err-Miss-texts.st (c.in-Err-Miss-texts.is ∙ ap Err c.in-Err-Miss-texts.field-0-is)
     (does_next (test_is c.directive.ensures) c.in-Err-Miss-directive.st (c.in-Err-Miss-directive.is ∙ ap Err c.in-Err-Miss-directive.field-0-is) (c.checks.ensures.does _))))
 
+pub import-lifted-requires : goal.import-lifted-requires
+import-lifted-requires t c = fit_lifts c.requires.fit
+
 pub import-returns-in_err-d : goal.import-returns-in_err-d
 import-returns-in_err-d t c =
     let p = err_from_is_err_and c.from_residual.result c.from_residual.ensures.1 in
-    rw (p.1, p.2) (import_head_out (c.in_err-d.ensures.does _ _) refl)
+    let h1 = lift_flat head_quiet.4 c.requires.fit.within c.in_err-d.ensures c.import_head-read.ensures.reads in
+    rw (p.1, p.2) (import_head_out (h1.does _ _) refl)
 
 pub import-trivia-quote-requires : goal.import-trivia-quote-requires
 import-trivia-quote-requires t c =
-    let f1 = fit_then (c.in_ok-d.ensures.does 0 []) c.requires.fit import_paid c.in_ok-d.d c.in_ok-d.x refl in
-    let g1 = grown_then (c.in_ok-d.ensures.does 0 []) c.requires.fit import_paid c.in_ok-d.d c.in_ok-d.x refl in f1.within
+    let h1 = lift_flat head_quiet.4 c.requires.fit.within c.in_ok-d.ensures c.import_head-read.ensures.reads in
+    let f1 = fit_then (h1.does 0 []) c.requires.fit import_paid c.in_ok-d.d c.in_ok-d.x refl in
+    f1.within
 
-pub import-import_file-requires : goal.import-import_file-requires
-import-import_file-requires t c =
-    let f1 = fit_then (c.in_ok-d.ensures.does 0 []) c.requires.fit import_paid c.in_ok-d.d c.in_ok-d.x refl in
-    let g1 = grown_then (c.in_ok-d.ensures.does 0 []) c.requires.fit import_paid c.in_ok-d.d c.in_ok-d.x refl in f1
+pub import-import_file-read-requires : goal.import-import_file-read-requires
+import-import_file-read-requires t c =
+    let h1 = lift_flat head_quiet.4 c.requires.fit.within c.in_ok-d.ensures c.import_head-read.ensures.reads in
+    let f1 = fit_then (h1.does 0 []) c.requires.fit import_paid c.in_ok-d.d c.in_ok-d.x refl in
+    fit_ready f1
+
+pub import-lifted-requires-2 : goal.import-lifted-requires-2
+import-lifted-requires-2 t c =
+    let h1 = lift_flat head_quiet.4 c.requires.fit.within c.in_ok-d.ensures c.import_head-read.ensures.reads in
+    let f1 = fit_then (h1.does 0 []) c.requires.fit import_paid c.in_ok-d.d c.in_ok-d.x refl in
+    fit_lifts f1
 
 pub import-returns-in_err-e : goal.import-returns-in_err-e
 import-returns-in_err-e t c =
     let p = err_from_is_err_and c.from_residual-in_err-e.result c.from_residual-in_err-e.ensures.1 in
-    rw (p.1, p.2) (import_name_out (c.in_ok-d.ensures.does _ _) c.in_ok-d.d c.in_ok-d.x refl (c.in_err-e.ensures.does _ _) refl)
+    let h1 = lift_flat head_quiet.4 c.requires.fit.within c.in_ok-d.ensures c.import_head-read.ensures.reads in
+    let f1 = fit_then (h1.does 0 []) c.requires.fit import_paid c.in_ok-d.d c.in_ok-d.x refl in
+    let h2 = lift_flat head_quiet.5 f1.within c.in_err-e.ensures c.import_file-read.ensures.reads in
+    rw (p.1, p.2) (import_name_out (h1.does _ _) c.in_ok-d.d c.in_ok-d.x refl (h2.does _ _) refl)
 
 pub import-overflow_sub-high : goal.import-overflow_sub-high
 import-overflow_sub-high t c =
-    let f1 = fit_then (c.in_ok-d.ensures.does 0 []) c.requires.fit import_paid c.in_ok-d.d c.in_ok-d.x refl in
-    let g1 = grown_then (c.in_ok-d.ensures.does 0 []) c.requires.fit import_paid c.in_ok-d.d c.in_ok-d.x refl in let f2 = fit_then
-    (c.in_ok-e.ensures.does 0 []) f1 quoted_paid c.in_ok-e.e c.in_ok-e.y refl in let g2 = grown_then
-    (c.in_ok-e.ensures.does 0 []) f1 quoted_paid c.in_ok-e.e c.in_ok-e.y refl in let m2 = moved_then
-    (c.in_ok-e.ensures.does 0 []) f1 quoted_moves c.in_ok-e.e c.in_ok-e.y refl in omega (arith, m2)
+    let h1 = lift_flat head_quiet.4 c.requires.fit.within c.in_ok-d.ensures c.import_head-read.ensures.reads in
+    let f1 = fit_then (h1.does 0 []) c.requires.fit import_paid c.in_ok-d.d c.in_ok-d.x refl in
+    let h2 = lift_flat head_quiet.5 f1.within c.in_ok-e.ensures c.import_file-read.ensures.reads in
+    let m2 = moved_then (h2.does 0 []) f1 quoted_moves c.in_ok-e.e c.in_ok-e.y refl in
+    omega (arith, m2)
 
 pub import-maybe-requires : goal.import-maybe-requires
 import-maybe-requires t c =
-    let f1 = fit_then (c.in_ok-d.ensures.does 0 []) c.requires.fit import_paid c.in_ok-d.d c.in_ok-d.x refl in
-    let g1 = grown_then (c.in_ok-d.ensures.does 0 []) c.requires.fit import_paid c.in_ok-d.d c.in_ok-d.x refl in let f2 = fit_then
-    (c.in_ok-e.ensures.does 0 []) f1 quoted_paid c.in_ok-e.e c.in_ok-e.y refl in let g2 = grown_then
-    (c.in_ok-e.ensures.does 0 []) f1 quoted_paid c.in_ok-e.e c.in_ok-e.y refl in let m2 = moved_then
-    (c.in_ok-e.ensures.does 0 []) f1 quoted_moves c.in_ok-e.e c.in_ok-e.y refl in (omega arith, f2)
+    let h1 = lift_flat head_quiet.4 c.requires.fit.within c.in_ok-d.ensures c.import_head-read.ensures.reads in
+    let f1 = fit_then (h1.does 0 []) c.requires.fit import_paid c.in_ok-d.d c.in_ok-d.x refl in
+    let h2 = lift_flat head_quiet.5 f1.within c.in_ok-e.ensures c.import_file-read.ensures.reads in
+    let f2 = fit_then (h2.does 0 []) f1 quoted_paid c.in_ok-e.e c.in_ok-e.y refl in
+    (omega arith, f2)
 
 pub import-returns-in_err-j : goal.import-returns-in_err-j
 import-returns-in_err-j t c =
     let p = err_from_is_err_and c.from_residual-in_err-j.result c.from_residual-in_err-j.ensures.1 in
-    rw (p.1, p.2) (import_block_out (c.in_ok-d.ensures.does _ _) c.in_ok-d.d c.in_ok-d.x refl (c.in_ok-e.ensures.does _ _) c.in_ok-e.e c.in_ok-e.y
+    let h1 = lift_flat head_quiet.4 c.requires.fit.within c.in_ok-d.ensures c.import_head-read.ensures.reads in
+    let f1 = fit_then (h1.does 0 []) c.requires.fit import_paid c.in_ok-d.d c.in_ok-d.x refl in
+    let h2 = lift_flat head_quiet.5 f1.within c.in_ok-e.ensures c.import_file-read.ensures.reads in
+    rw (p.1, p.2) (import_block_out (h1.does _ _) c.in_ok-d.d c.in_ok-d.x refl (h2.does _ _) c.in_ok-e.e c.in_ok-e.y
     refl c.in_err-j.ensures refl)
 
 pub import-import-requires-clause-spans : goal.import-import-requires-clause-spans
 import-import-requires-clause-spans t c =
-    let f1 = fit_then (c.in_ok-d.ensures.does 0 []) c.requires.fit import_paid c.in_ok-d.d c.in_ok-d.x refl in
-    let g1 = grown_then (c.in_ok-d.ensures.does 0 []) c.requires.fit import_paid c.in_ok-d.d c.in_ok-d.x refl in let f2 = fit_then
-    (c.in_ok-e.ensures.does 0 []) f1 quoted_paid c.in_ok-e.e c.in_ok-e.y refl in let g2 = grown_then
-    (c.in_ok-e.ensures.does 0 []) f1 quoted_paid c.in_ok-e.e c.in_ok-e.y refl in let m2 = moved_then
-    (c.in_ok-e.ensures.does 0 []) f1 quoted_moves c.in_ok-e.e c.in_ok-e.y refl in let f3 = fit_then c.in_ok-j.ensures f2 maybe_paid
-    c.in_ok-j.j c.in_ok-j.z refl in let g3 = grown_then c.in_ok-j.ensures f2 maybe_paid c.in_ok-j.j c.in_ok-j.z refl in spans
-    c.requires.skips f3 (omega (arith, g1, g2, g3))
+    let h1 = lift_flat head_quiet.4 c.requires.fit.within c.in_ok-d.ensures c.import_head-read.ensures.reads in
+    let f1 = fit_then (h1.does 0 []) c.requires.fit import_paid c.in_ok-d.d c.in_ok-d.x refl in
+    let h2 = lift_flat head_quiet.5 f1.within c.in_ok-e.ensures c.import_file-read.ensures.reads in
+    let f2 = fit_then (h2.does 0 []) f1 quoted_paid c.in_ok-e.e c.in_ok-e.y refl in
+    let g1 = grown_then (h1.does 0 []) c.requires.fit import_paid c.in_ok-d.d c.in_ok-d.x refl in
+    let g2 = grown_then (h2.does 0 []) f1 quoted_paid c.in_ok-e.e c.in_ok-e.y refl in
+    let g3 = grown_then c.in_ok-j.ensures f2 maybe_paid c.in_ok-j.j c.in_ok-j.z refl in
+    spans c.requires.skips (fit_then c.in_ok-j.ensures f2 maybe_paid c.in_ok-j.j c.in_ok-j.z refl) (omega (arith, g1, g2, g3))
 
-pub import-import-requires-clause-low_bound : goal.import-import-requires-clause-low_bound
-import-import-requires-clause-low_bound t c =
-    let f1 = fit_then (c.in_ok-d.ensures.does 0 []) c.requires.fit import_paid c.in_ok-d.d c.in_ok-d.x refl in
-    let g1 = grown_then (c.in_ok-d.ensures.does 0 []) c.requires.fit import_paid c.in_ok-d.d c.in_ok-d.x refl in let f2 = fit_then
-    (c.in_ok-e.ensures.does 0 []) f1 quoted_paid c.in_ok-e.e c.in_ok-e.y refl in let g2 = grown_then
-    (c.in_ok-e.ensures.does 0 []) f1 quoted_paid c.in_ok-e.e c.in_ok-e.y refl in let m2 = moved_then
-    (c.in_ok-e.ensures.does 0 []) f1 quoted_moves c.in_ok-e.e c.in_ok-e.y refl in let f3 = fit_then c.in_ok-j.ensures f2 maybe_paid
-    c.in_ok-j.j c.in_ok-j.z refl in let g3 = grown_then c.in_ok-j.ensures f2 maybe_paid c.in_ok-j.j c.in_ok-j.z refl in
+pub import-import-requires-clause-words : goal.import-import-requires-clause-words
+import-import-requires-clause-words t c =
+    let h1 = lift_flat head_quiet.4 c.requires.fit.within c.in_ok-d.ensures c.import_head-read.ensures.reads in
+    let f1 = fit_then (h1.does 0 []) c.requires.fit import_paid c.in_ok-d.d c.in_ok-d.x refl in
+    let h2 = lift_flat head_quiet.5 f1.within c.in_ok-e.ensures c.import_file-read.ensures.reads in
+    let f2 = fit_then (h2.does 0 []) f1 quoted_paid c.in_ok-e.e c.in_ok-e.y refl in
+    let f3 = fit_then c.in_ok-j.ensures f2 maybe_paid c.in_ok-j.j c.in_ok-j.z refl in
     omega (arith, f3.small, c.trivia-quote.ensures.within, f2.within, f3.within, f3.requests)
 
 pub import-returns : goal.import-returns
 import-returns t c =
-    let f1 = fit_then (c.in_ok-d.ensures.does 0 []) c.requires.fit import_paid c.in_ok-d.d c.in_ok-d.x refl in
-    let g1 = grown_then (c.in_ok-d.ensures.does 0 []) c.requires.fit import_paid c.in_ok-d.d c.in_ok-d.x refl in let f2 = fit_then
-    (c.in_ok-e.ensures.does 0 []) f1 quoted_paid c.in_ok-e.e c.in_ok-e.y refl in let g2 = grown_then
-    (c.in_ok-e.ensures.does 0 []) f1 quoted_paid c.in_ok-e.e c.in_ok-e.y refl in let m2 = moved_then
-    (c.in_ok-e.ensures.does 0 []) f1 quoted_moves c.in_ok-e.e c.in_ok-e.y refl in let f3 = fit_then c.in_ok-j.ensures f2 maybe_paid
-    c.in_ok-j.j c.in_ok-j.z refl in let g3 = grown_then c.in_ok-j.ensures f2 maybe_paid c.in_ok-j.j c.in_ok-j.z refl in
-    import_all (c.in_ok-d.ensures.does _ _) c.in_ok-d.d c.in_ok-d.x refl (c.in_ok-e.ensures.does _ _) c.in_ok-e.e c.in_ok-e.y
+    let h1 = lift_flat head_quiet.4 c.requires.fit.within c.in_ok-d.ensures c.import_head-read.ensures.reads in
+    let f1 = fit_then (h1.does 0 []) c.requires.fit import_paid c.in_ok-d.d c.in_ok-d.x refl in
+    let h2 = lift_flat head_quiet.5 f1.within c.in_ok-e.ensures c.import_file-read.ensures.reads in
+    let f2 = fit_then (h2.does 0 []) f1 quoted_paid c.in_ok-e.e c.in_ok-e.y refl in
+    let g1 = grown_then (h1.does 0 []) c.requires.fit import_paid c.in_ok-d.d c.in_ok-d.x refl in
+    let g2 = grown_then (h2.does 0 []) f1 quoted_paid c.in_ok-e.e c.in_ok-e.y refl in
+    let g3 = grown_then c.in_ok-j.ensures f2 maybe_paid c.in_ok-j.j c.in_ok-j.z refl in
+    import_all (h1.does _ _) c.in_ok-d.d c.in_ok-d.x refl (h2.does _ _) c.in_ok-e.e c.in_ok-e.y
     refl c.in_ok-j.ensures c.requires.skips c.trivia-quote.ensures f1.within c.in_ok-j.j c.in_ok-j.z refl
     (omega (arith, g1, g2, g3)) _ refl c.import.ensures
 
 pub item-returns-in_default : goal.item-returns-in_default
-item-returns-in_default t c = item_first c.requires.le_at c.requires.fit c.in_default.ensures (λ m e. grind arith)
+item-returns-in_default t c = item_first c.requires.behind c.requires.fit c.in_default.ensures (λ m e. grind arith)
 
 pub item-returns-in_default-2 : goal.item-returns-in_default-2
-item-returns-in_default-2 t c = item_first c.requires.le_at c.requires.fit c.statement.ensures (λ m e. grind arith)
+item-returns-in_default-2 t c = item_first c.requires.behind c.requires.fit c.statement.ensures (λ m e. grind arith)
 
 pub item-error_in_block-requires : goal.item-error_in_block-requires
 item-error_in_block-requires t c = fit_next c.statement.ensures c.requires.fit statement_sober c.in-Err-Miss.x (c.in-Err-Miss.is ∙ ap Err c.in-Err-Miss.field-0-is)
 
 pub item-returns : goal.item-returns
-item-returns t c = item_error c.requires.le_at c.requires.fit c.statement.ensures c.in-Err-Miss.x (c.in-Err-Miss.is ∙ ap Err c.in-Err-Miss.field-0-is) c.error_in_block.ensures
+item-returns t c = item_error c.requires.behind c.requires.fit c.statement.ensures c.in-Err-Miss.x (c.in-Err-Miss.is ∙ ap Err c.in-Err-Miss.field-0-is) c.error_in_block.ensures
 
 pub items-loop-d-init : goal.items-loop-d-init
-items-loop-d-init t c = (walking_none block_item _ _ c.requires.fit, c.requires.le_at)
+items-loop-d-init t c = (walking_none block_item _ _ c.requires.fit, c.requires.behind)
 
 pub items-loop-d-smaller : goal.items-loop-d-smaller
 items-loop-d-smaller t c =
@@ -304,39 +296,53 @@ items-returns-in-Err-Miss t c = walking_end c.loop-d.invariant.0 c.item.ensures 
 pub items-returns-in-Err-Deep : goal.items-returns-in-Err-Deep
 items-returns-in-Err-Deep t c = walking_deep c.loop-d.invariant.0 c.item.ensures c.args.c.met (c.in-Err-Deep.is ∙ ap Err c.in-Err-Deep.field-0-is)
 
+pub label-lifted-h-requires : goal.label-lifted-h-requires
+label-lifted-h-requires t c = fit_lifts c.requires.fit
+
 pub label-rest-requires : goal.label-rest-requires
 label-rest-requires t c =
-    (omega arith, (c.requires.skips, headed c.requires.fit label_head label_paid.0 label_paid.1 (c.label_head-h.ensures.does 0 [])))
+    let h = lift_flat head_quiet.0 c.requires.fit.within c.lifted-h.ensures c.label_head-read.ensures.reads in
+    (omega arith, (c.requires.skips, headed c.requires.fit label_head label_paid.0 label_paid.1 (h.does 0 [])))
 
 pub label-returns : goal.label-returns
-label-returns t c = label_ends c.requires.skips (c.label_head-h.ensures.does _ _) c.rest.ensures
+label-returns t c =
+    let h = lift_flat head_quiet.0 c.requires.fit.within c.lifted-h.ensures c.label_head-read.ensures.reads in
+    label_ends c.requires.skips (h.does _ _) c.rest.ensures
+
+pub macro_of-lifted-h-requires : goal.macro_of-lifted-h-requires
+macro_of-lifted-h-requires t c = fit_lifts c.requires.fit
 
 pub macro_of-rest-requires : goal.macro_of-rest-requires
 macro_of-rest-requires t c =
-    (omega arith, (c.requires.skips, headed c.requires.fit macro_head macro_paid.0 macro_paid.1 (c.macro_head-h.ensures.does 0 [])))
+    let h = lift_flat head_quiet.2 c.requires.fit.within c.lifted-h.ensures c.macro_head-read.ensures.reads in
+    (omega arith, (c.requires.skips, headed c.requires.fit macro_head macro_paid.0 macro_paid.1 (h.does 0 [])))
 
 pub macro_of-returns : goal.macro_of-returns
-macro_of-returns t c = macro_ends c.requires.skips (c.macro_head-h.ensures.does _ _) c.rest.ensures
-
-pub maybe-returns-in_default : goal.maybe-returns-in_default
-maybe-returns-in_default t c = does_opt c.in_default.ensures (λ m e. grind arith)
-
-pub maybe-returns-in_default-2 : goal.maybe-returns-in_default-2
-maybe-returns-in_default-2 t c = does_opt c.block.ensures (λ m e. grind arith)
+macro_of-returns t c =
+    let h = lift_flat head_quiet.2 c.requires.fit.within c.lifted-h.ensures c.macro_head-read.ensures.reads in
+    macro_ends c.requires.skips (h.does _ _) c.rest.ensures
 
 pub maybe-returns : goal.maybe-returns
-maybe-returns t c = does_none c.block.ensures c.in-Err-Miss.x (c.in-Err-Miss.is ∙ ap Err c.in-Err-Miss.field-0-is)
+maybe-returns t c = does_optional c.block-done.ensures c.optional.ensures
+
+pub other-lifted-requires : goal.other-lifted-requires
+other-lifted-requires t c = fit_lifts c.requires
 
 pub other-returns-in_err-d : goal.other-returns-in_err-d
 other-returns-in_err-d t c =
     let p = err_from_is_err_and c.from_residual.result c.from_residual.ensures.1 in
-    rw (p.1, p.2) (does_out (c.in_err-d.ensures.does _ _) refl)
+    let h = lift_flat head_quiet.6 c.requires.within c.in_err-d.ensures c.else_head-read.ensures.reads in
+    rw (p.1, p.2) (does_out (h.does _ _) refl)
 
 pub other-block-requires : goal.other-block-requires
-other-block-requires t c = (omega arith, fit_then (c.in_ok-d.ensures.does 0 []) c.requires else_paid c.in_ok-d.d c.in_ok-d.x refl)
+other-block-requires t c =
+    let h = lift_flat head_quiet.6 c.requires.within c.in_ok-d.ensures c.else_head-read.ensures.reads in
+    (omega arith, fit_then (h.does 0 []) c.requires else_paid c.in_ok-d.d c.in_ok-d.x refl)
 
 pub other-returns : goal.other-returns
-other-returns t c = does_then (c.in_ok-d.ensures.does _ _) c.in_ok-d.d c.in_ok-d.x refl c.block.ensures
+other-returns t c =
+    let h = lift_flat head_quiet.6 c.requires.within c.in_ok-d.ensures c.else_head-read.ensures.reads in
+    does_then (h.does _ _) c.in_ok-d.d c.in_ok-d.x refl c.block.ensures
 
 pub rest-returns-in_err-d : goal.rest-returns-in_err-d
 rest-returns-in_err-d t c =
@@ -355,16 +361,16 @@ pub rest-close-requires : goal.rest-close-requires
 rest-close-requires t c =
     let df = c.requires.headed.fit c.in_ok-d.d c.in_ok-d.x c.in_ok-d.was in
     let dg = c.requires.headed.grown c.in_ok-d.d c.in_ok-d.x c.in_ok-d.was in
-    let ef = fit_then c.in_ok-e.ensures df (body_paid c.args.b) c.in_ok-e.e c.in_ok-e.y refl in
-    let eg = grown_then c.in_ok-e.ensures df (body_paid c.args.b) c.in_ok-e.e c.in_ok-e.y refl in
+    let ef = fit_then c.in_ok-e.ensures df (body_paid c.args.form.body) c.in_ok-e.e c.in_ok-e.y refl in
+    let eg = grown_then c.in_ok-e.ensures df (body_paid c.args.form.body) c.in_ok-e.e c.in_ok-e.y refl in
     spans c.requires.skips ef (omega (arith, dg, eg))
 
 pub rest-returns : goal.rest-returns
 rest-returns t c =
     let df = c.requires.headed.fit c.in_ok-d.d c.in_ok-d.x c.in_ok-d.was in
     let dg = c.requires.headed.grown c.in_ok-d.d c.in_ok-d.x c.in_ok-d.was in
-    let ef = fit_then c.in_ok-e.ensures df (body_paid c.args.b) c.in_ok-e.e c.in_ok-e.y refl in
-    let eg = grown_then c.in_ok-e.ensures df (body_paid c.args.b) c.in_ok-e.e c.in_ok-e.y refl in
+    let ef = fit_then c.in_ok-e.ensures df (body_paid c.args.form.body) c.in_ok-e.e c.in_ok-e.y refl in
+    let eg = grown_then c.in_ok-e.ensures df (body_paid c.args.form.body) c.in_ok-e.e c.in_ok-e.y refl in
     ends_got c.in_ok-d.d c.in_ok-d.x c.in_ok-d.was c.in_ok-e.ensures c.in_ok-e.e c.in_ok-e.y refl (omega (arith, dg, eg)) c.close.ensures
 
 pub second-returns-in_default : goal.second-returns-in_default
@@ -473,30 +479,34 @@ third-returns-in_default-directive t c = third_is (does_next (loop_is c.directiv
 pub third-returns-in_default-directive-2 : goal.third-returns-in_default-directive-2
 third-returns-in_default-directive-2 t c = third_is (does_next (loop_is c.directive.ensures) c.in-Err-Miss.st (c.in-Err-Miss.is ∙ ap Err c.in-Err-Miss.field-0-is) (does_first (if_is c.directive-2.ensures) (λ m e. grind arith)))
 
-pub third-align-requires-clause-fit : goal.third-align-requires-clause-fit
-third-align-requires-clause-fit t c =
+pub third-lifted-requires : goal.third-lifted-requires
+third-lifted-requires t c =
     let h1 = fit_next (loop_is c.directive.ensures) c.requires.fit third_sober.0 c.in-Err-Miss.st (c.in-Err-Miss.is ∙ ap Err c.in-Err-Miss.field-0-is) in
-    fit_next (if_is c.directive-2.ensures) h1 third_sober.1 c.in-Err-Miss-directive.st (c.in-Err-Miss-directive.is ∙ ap Err c.in-Err-Miss-directive.field-0-is)
+    fit_lifts (fit_next (if_is c.directive-2.ensures) h1 third_sober.1 c.in-Err-Miss-directive.st (c.in-Err-Miss-directive.is ∙ ap Err c.in-Err-Miss-directive.field-0-is))
 
-pub third-returns-in_default-align : goal.third-returns-in_default-align
-third-returns-in_default-align t c = third_is
-    (does_next (loop_is c.directive.ensures) c.in-Err-Miss.st (c.in-Err-Miss.is ∙ ap Err c.in-Err-Miss.field-0-is)
-    (does_next (if_is c.directive-2.ensures) c.in-Err-Miss-directive.st (c.in-Err-Miss-directive.is ∙ ap Err c.in-Err-Miss-directive.field-0-is) (does_first (c.in_default-align.ensures.does _) (λ m e. grind arith))))
+pub third-returns-in_default-lifted : goal.third-returns-in_default-lifted
+third-returns-in_default-lifted t c =
+    let h1 = fit_next (loop_is c.directive.ensures) c.requires.fit third_sober.0 c.in-Err-Miss.st (c.in-Err-Miss.is ∙ ap Err c.in-Err-Miss.field-0-is) in
+    let h2 = fit_next (if_is c.directive-2.ensures) h1 third_sober.1 c.in-Err-Miss-directive.st (c.in-Err-Miss-directive.is ∙ ap Err c.in-Err-Miss-directive.field-0-is) in
+    third_is (does_next (loop_is c.directive.ensures) c.in-Err-Miss.st (c.in-Err-Miss.is ∙ ap Err c.in-Err-Miss.field-0-is)
+    (does_next (if_is c.directive-2.ensures) c.in-Err-Miss-directive.st (c.in-Err-Miss-directive.is ∙ ap Err c.in-Err-Miss-directive.field-0-is) (does_first ((tried statement_calm.5 h2 c.in_default-lifted.ensures c.align-read.ensures).does _) (λ m e. grind arith))))
 
-pub third-returns-in_default-align-2 : goal.third-returns-in_default-align-2
-third-returns-in_default-align-2 t c = third_is
-    (does_next (loop_is c.directive.ensures) c.in-Err-Miss.st (c.in-Err-Miss.is ∙ ap Err c.in-Err-Miss.field-0-is)
-    (does_next (if_is c.directive-2.ensures) c.in-Err-Miss-directive.st (c.in-Err-Miss-directive.is ∙ ap Err c.in-Err-Miss-directive.field-0-is) (does_first (c.align.ensures.does _) (λ m e. grind arith))))
+pub third-returns-in_default-lifted-2 : goal.third-returns-in_default-lifted-2
+third-returns-in_default-lifted-2 t c =
+    let h1 = fit_next (loop_is c.directive.ensures) c.requires.fit third_sober.0 c.in-Err-Miss.st (c.in-Err-Miss.is ∙ ap Err c.in-Err-Miss.field-0-is) in
+    let h2 = fit_next (if_is c.directive-2.ensures) h1 third_sober.1 c.in-Err-Miss-directive.st (c.in-Err-Miss-directive.is ∙ ap Err c.in-Err-Miss-directive.field-0-is) in
+    third_is (does_next (loop_is c.directive.ensures) c.in-Err-Miss.st (c.in-Err-Miss.is ∙ ap Err c.in-Err-Miss.field-0-is)
+    (does_next (if_is c.directive-2.ensures) c.in-Err-Miss-directive.st (c.in-Err-Miss-directive.is ∙ ap Err c.in-Err-Miss-directive.field-0-is) (does_first ((tried statement_calm.5 h2 c.lifted.ensures c.align-read.ensures).does _) (λ m e. grind arith))))
 
 pub third-fourth-requires : goal.third-fourth-requires
 third-fourth-requires t c =
     let h1 = fit_next (loop_is c.directive.ensures) c.requires.fit third_sober.0 c.in-Err-Miss.st (c.in-Err-Miss.is ∙ ap Err c.in-Err-Miss.field-0-is) in
-    let h2 = fit_next (if_is c.directive-2.ensures) h1 third_sober.1 c.in-Err-Miss-directive.st (c.in-Err-Miss-directive.is ∙ ap Err c.in-Err-Miss-directive.field-0-is) in let h3 = fit_next (c.align.ensures.does [])
-    h2 third_sober.2 c.in-Err-Miss-align.st (c.in-Err-Miss-align.is ∙ ap Err c.in-Err-Miss-align.field-0-is) in (omega arith, (h3, c.requires.skips))
+    let h2 = fit_next (if_is c.directive-2.ensures) h1 third_sober.1 c.in-Err-Miss-directive.st (c.in-Err-Miss-directive.is ∙ ap Err c.in-Err-Miss-directive.field-0-is) in
+    (omega arith, (tried_fit statement_calm.5 h2 c.lifted.ensures c.align-read.ensures c.in-Err-Miss-lifted.st (c.in-Err-Miss-lifted.is ∙ ap Err c.in-Err-Miss-lifted.field-0-is), c.requires.skips))
 
 pub third-returns : goal.third-returns
 third-returns t c =
-    third_is
-    (does_next (loop_is c.directive.ensures) c.in-Err-Miss.st (c.in-Err-Miss.is ∙ ap Err c.in-Err-Miss.field-0-is)
-    (does_next (if_is c.directive-2.ensures) c.in-Err-Miss-directive.st (c.in-Err-Miss-directive.is ∙ ap Err c.in-Err-Miss-directive.field-0-is)
-    (does_next (c.align.ensures.does _) c.in-Err-Miss-align.st (c.in-Err-Miss-align.is ∙ ap Err c.in-Err-Miss-align.field-0-is) c.fourth.ensures)))
+    let h1 = fit_next (loop_is c.directive.ensures) c.requires.fit third_sober.0 c.in-Err-Miss.st (c.in-Err-Miss.is ∙ ap Err c.in-Err-Miss.field-0-is) in
+    let h2 = fit_next (if_is c.directive-2.ensures) h1 third_sober.1 c.in-Err-Miss-directive.st (c.in-Err-Miss-directive.is ∙ ap Err c.in-Err-Miss-directive.field-0-is) in
+    third_is (does_next (loop_is c.directive.ensures) c.in-Err-Miss.st (c.in-Err-Miss.is ∙ ap Err c.in-Err-Miss.field-0-is)
+    (does_next (if_is c.directive-2.ensures) c.in-Err-Miss-directive.st (c.in-Err-Miss-directive.is ∙ ap Err c.in-Err-Miss-directive.field-0-is) (does_next ((tried statement_calm.5 h2 c.lifted.ensures c.align-read.ensures).does _) c.in-Err-Miss-lifted.st (c.in-Err-Miss-lifted.is ∙ ap Err c.in-Err-Miss-lifted.field-0-is) c.fourth.ensures)))
