@@ -11,7 +11,7 @@ use Rattle.cursor.proofs.Loops.{looped_none}
 use Rattle.lexis.proofs.Solids.{char_solid}
 use Rattle.operand.proofs.Facts.{key_solid, pairs_solid, assigned_solid, value_quiet, value_slim, value_cost}
 use Rattle.expression.proofs.Steps.{then_out, then_got}
-use Rattle.operand.proofs.Steps.{node_misses, node_done, onward, onward_solid, onward_then, onward_behind, onward_arounded, onward_ready, spans}
+use Rattle.operand.proofs.Steps.{node_misses, node_done, onward, onward_solid, onward_then, onward_behind, onward_finished, onward_ready, spans}
 use Rattle.operand.proofs.Pairs.{map_misses, map_deep, map_lacks, map_done, pairs_round, pairs_more, pairs_end, pairs_deep}
 use Rattle.operand.proofs.Pairs.{kvp_misses, kvp_lacks, kvp_done, value_map, value_other}
 use Rattle.operand.proofs.config_map.+config_map.Goals as goal
@@ -64,7 +64,7 @@ config_map-around-requires-clause-spans t c =
     let a = onward_solid (char_solid true 123) c.requires.within
     (reads_leaf 0 (c.in_ok-d.ensures.leafs multiline_trivia c.multiline_trivia-k.ensures)) c.in_ok-d.d refl in
     let b = onward_then a (onward_solid pairs_solid a.within c.in_ok-e.ensures c.in_ok-e.e refl) in
-    spans c.requires c.multiline_trivia-k.ensures (omega arith) (onward_arounded b c.around-y.ensures)
+    spans c.requires c.multiline_trivia-k.ensures (omega arith) (onward_finished b c.around-y.ensures)
 
 pub config_map-returns : goal.config_map-returns
 config_map-returns t c =
