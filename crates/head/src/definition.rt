@@ -11,6 +11,11 @@ use cursor::{Cursor, Read, Skip, Stop};
 use lexis::{identifier, mark};
 use table::Kind;
 
+// Types of variables, as the details of their rows.
+const CONSTANT: usize = 1;
+
+const VARIABLE: usize = 2;
+
 // `=` and an expression.
 fn assigned(s: &[u8], c: Cursor, left: usize, rows: &mut [u32]) -> Read
     requires { Ready 0 s.now c }
@@ -40,7 +45,8 @@ fn varconst(
 ) -> Read
     requires ready { Ready 0 s.now c }
     requires skips { Skips multiline_trivia s.now c.at.0 c.met k }
-    requires in_bounds { (1 ≤ length word.now) × (detail < 2 ^ 32) }
+    requires nonempty { 1 ≤ length word.now }
+    requires detail_bound { detail < 2 ^ 32 }
     ensures { Reads (varconst word.now detail) s.now c left rows.old rows.new result }
 {
     let d = mark::word(s, c, k, word, Kind::VariableType, detail, rows)?;
@@ -53,7 +59,7 @@ pub fn variable_definition(s: &[u8], c: Cursor, k: Skip, left: usize, rows: &mut
     requires skips { Skips multiline_trivia s.now c.at.0 c.met k }
     ensures { Reads variable_definition s.now c left rows.old rows.new result }
 {
-    varconst(s, c, k, b".var", 2, left, rows)
+    varconst(s, c, k, b".var", VARIABLE, left, rows)
 }
 
 pub fn const_definition(s: &[u8], c: Cursor, k: Skip, left: usize, rows: &mut [u32]) -> Read
@@ -61,7 +67,7 @@ pub fn const_definition(s: &[u8], c: Cursor, k: Skip, left: usize, rows: &mut [u
     requires skips { Skips multiline_trivia s.now c.at.0 c.met k }
     ensures { Reads const_definition s.now c left rows.old rows.new result }
 {
-    varconst(s, c, k, b".const", 1, left, rows)
+    varconst(s, c, k, b".const", CONSTANT, left, rows)
 }
 
 pub fn pc_definition(s: &[u8], c: Cursor, k: Skip, left: usize, rows: &mut [u32]) -> Read

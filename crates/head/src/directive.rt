@@ -12,6 +12,13 @@ use cursor::{Cursor, Read, Skip, Stop};
 use lexis::{mark, operator};
 use table::Kind;
 
+// Sizes of data, as the details of their rows.
+const BYTE: usize = 1;
+
+const WORD: usize = 2;
+
+const DOUBLE_WORD: usize = 3;
+
 // A word in any letter case.
 pub fn directive(s: &[u8], c: Cursor, k: Skip, word: &[u8], rows: &mut [u32]) -> Read
     requires ready { Ready 0 s.now c }
@@ -40,7 +47,7 @@ pub fn directive_expression(
 ) -> Read
     requires ready { Ready 0 s.now c }
     requires skips { Skips multiline_trivia s.now c.at.0 c.met k }
-    requires in_bounds { 1 ≤ length word.now }
+    requires nonempty { 1 ≤ length word.now }
     ensures { Reads (directive_expression word.now) s.now c left rows.old rows.new result }
 {
     let d = directive(s, c, k, word, rows)?;
@@ -53,7 +60,7 @@ fn wide_size(s: &[u8], c: Cursor, k: Skip, rows: &mut [u32]) -> Read
     requires skips { Skips multiline_trivia s.now c.at.0 c.met k }
     ensures { Flat wide_size s.now c rows.old rows.new result }
 {
-    let met = match mark::word(s, c, k, b".word", Kind::DataSize, 2, rows) {
+    let met = match mark::word(s, c, k, b".word", Kind::DataSize, WORD, rows) {
         Err(Stop::Miss(met)) => met,
         read => return read,
     };
@@ -67,7 +74,7 @@ fn wide_size(s: &[u8], c: Cursor, k: Skip, rows: &mut [u32]) -> Read
         j,
         b".dword",
         Kind::DataSize,
-        3,
+        DOUBLE_WORD,
         rows,
     )
 }
@@ -78,7 +85,7 @@ pub fn data_head(s: &[u8], c: Cursor, k: Skip, rows: &mut [u32]) -> Read
     requires skips { Skips multiline_trivia s.now c.at.0 c.met k }
     ensures { Flat data_size s.now c rows.old rows.new result }
 {
-    let met = match mark::word(s, c, k, b".byte", Kind::DataSize, 1, rows) {
+    let met = match mark::word(s, c, k, b".byte", Kind::DataSize, BYTE, rows) {
         Err(Stop::Miss(met)) => met,
         read => return read,
     };
@@ -92,7 +99,7 @@ pub fn data_head(s: &[u8], c: Cursor, k: Skip, rows: &mut [u32]) -> Read
 // The arguments of `.byte` and `.trace`.
 pub fn expression_arg_list(s: &[u8], c: Cursor, left: usize, rows: &mut [u32]) -> Read
     requires ready { Ready 0 s.now c }
-    requires le_at { 1 ≤ c.at.0 }
+    requires behind_byte { 1 ≤ c.at.0 }
     ensures { Reads expression_arg_list s.now c left rows.old rows.new result }
 {
     expression::arguments(s, c, left, rows)

@@ -1,5 +1,5 @@
 // What statements are made of.
-ghost use Rattle.std.specs.Prelude.{◌≡◌, ◌^◌, ◌<◌};
+ghost use Rattle.std.specs.Prelude.{◌≡◌};
 ghost use Rattle.reading.specs.Rules.{name, path, expression};
 ghost use Rattle.cursor.specs.Agree.{Ready, Reads, Leafs};
 ghost use Rattle.literal.specs.Parts.{string_of};
@@ -9,7 +9,7 @@ ghost use Rattle.head.specs.Heads.{char_of};
 
 use cursor::{Cursor, Read, Skip, Stop};
 use lexis::{identifier, mark};
-use table::{Kind, RowIndex};
+use table::Kind;
 
 // A character behind its trivia.
 pub fn char(s: &[u8], c: Cursor, b: u8, rows: &mut [u32]) -> Read
@@ -64,15 +64,10 @@ pub fn optional(c: Cursor, f: Read) -> Read
 }
 
 // The row around all that was read from `c` on, whose trivia ended at `k`, if its last part was read.
-pub fn whole(c: Cursor, k: Skip, f: Read, kind: Kind, rows: &mut [u32]) -> Read
+pub(crate) fn whole(c: Cursor, k: Skip, f: Read, kind: Kind, rows: &mut [u32]) -> Read
     requires { Closable c k f }
     ensures { Whole (kind_number kind) c k f rows.old rows.new result }
 {
     let e = f?;
-    let n = e.count.0;
-    table::push_row(rows, e.count, kind, n + 1 - c.count.0, c.at, k.at, e.at, 0);
-    Ok(Cursor {
-        count: RowIndex(n + 1),
-        ..e
-    })
+    Ok(mark::around(c, k.at, e, kind, 0, rows))
 }

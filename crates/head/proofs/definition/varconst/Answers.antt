@@ -24,7 +24,7 @@ named-g-requires c =
       c.requires.skips,
     ) variable_typeᵏ
     c.args.detail _
-    c.requires.in_bounds.0) (reads_leaf 0
+    c.requires.nonempty) (reads_leaf 0
     (c.in_ok-d.ensures.leafs multiline_trivia
     c.requires.skips)) refl
 
@@ -36,7 +36,7 @@ whole-requires c = rest_closable (word_begins (
 )
     variable_typeᵏ
     c.args.detail _
-    c.requires.in_bounds.0)
+    c.requires.nonempty)
     (reads_leaf _ (c.in_ok-d.ensures.leafs multiline_trivia
     c.requires.skips))
     refl named_owing (lit≤ tt) c.named-g.ensures
@@ -51,7 +51,7 @@ returns c =
     variable_typeᵏ
     c.args.detail
     _
-    c.requires.in_bounds.0)
+    c.requires.nonempty)
     (reads_leaf _ (c.in_ok-d.ensures.leafs
     multiline_trivia
     c.requires.skips))

@@ -17,9 +17,9 @@ returns-in_err-d c =
 pub expression-requires : goal.expression-requires
 unfolding directive_of
 expression-requires c =
-    (next (paid_up (word_solid wordᵏ 0 _ c.requires.in_bounds)) c.requires.ready (c.in_ok-d.ensures.reads 0) refl).ready
+    (next (paid_up (word_solid wordᵏ 0 _ c.requires.nonempty)) c.requires.ready (c.in_ok-d.ensures.reads 0) refl).ready
 
 pub returns : goal.returns
 unfolding directive_expression directive_of
 returns c =
-    seq_on (c.in_ok-d.ensures.reads _) (word_solid wordᵏ 0 _ c.requires.in_bounds).quieted refl c.expression.ensures
+    seq_on (c.in_ok-d.ensures.reads _) (word_solid wordᵏ 0 _ c.requires.nonempty).quieted refl c.expression.ensures

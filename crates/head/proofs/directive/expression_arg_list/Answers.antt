@@ -3,4 +3,4 @@ use Rattle.head.proofs.directive.expression_arg_list.Goals as goal
 
 pub returns : goal.returns
 returns c =
-    reads_arguments c.requires.le_at c.requires.ready.within c.arguments.ensures
+    reads_arguments c.requires.behind_byte c.requires.ready.within c.arguments.ensures

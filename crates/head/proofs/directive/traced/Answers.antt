@@ -13,8 +13,8 @@ returns-in_err-d c =
     let p = err_from_is_err_and c.from_residual.result c.from_residual.ensures.1 in
     rw (p.1, p.2) (seq_stop (reads_leaf _ c.in_err-d.ensures) _ refl)
 
-pub expression_arg_list-g-requires-clause-le_at : goal.expression_arg_list-g-requires-clause-le_at
-expression_arg_list-g-requires-clause-le_at c =
+pub expression_arg_list-g-requires-clause-behind_byte : goal.expression_arg_list-g-requires-clause-behind_byte
+expression_arg_list-g-requires-clause-behind_byte c =
     let a = reads_leaf 0 c.in_ok-d.ensures in
     past (char_solid 40) c.requires a refl
 

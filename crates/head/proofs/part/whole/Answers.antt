@@ -9,4 +9,4 @@ returns-in_err-e c =
     rw (p.1, p.2, c.in_err-e.was) (whole_none _ _ _ _ _ refl)
 
 pub returns : goal.returns
-returns c = whole_some _ c.args.c c.args.k c.in_ok-e.was c.push_row.ensures
+returns c = whole_some _ c.args.c c.args.k c.in_ok-e.was c.around.ensures
