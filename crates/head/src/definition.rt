@@ -54,6 +54,7 @@ fn varconst(
     part::whole(c, k, g, Kind::VariableDefinition, rows)
 }
 
+#[tactic(auto, unfolding(reading::specs::Rules::variable_definition, crate::specs::Heads::varconst, crate::specs::Heads::word_of, crate::specs::Heads::named, crate::specs::Heads::assigned))]
 pub fn variable_definition(s: &[u8], c: Cursor, k: Skip, left: usize, rows: &mut [u32]) -> Read
     requires ready { Ready 0 s.now c }
     requires skips { Skips multiline_trivia s.now c.at.0 c.met k }
@@ -62,6 +63,7 @@ pub fn variable_definition(s: &[u8], c: Cursor, k: Skip, left: usize, rows: &mut
     varconst(s, c, k, b".var", VARIABLE, left, rows)
 }
 
+#[tactic(auto, unfolding(reading::specs::Rules::const_definition, crate::specs::Heads::varconst, crate::specs::Heads::word_of, crate::specs::Heads::named, crate::specs::Heads::assigned))]
 pub fn const_definition(s: &[u8], c: Cursor, k: Skip, left: usize, rows: &mut [u32]) -> Read
     requires ready { Ready 0 s.now c }
     requires skips { Skips multiline_trivia s.now c.at.0 c.met k }

@@ -20,6 +20,7 @@ const WORD: usize = 2;
 const DOUBLE_WORD: usize = 3;
 
 // A word in any letter case.
+#[tactic(auto, using(crate::proofs::Steps::flat_leaf), unfolding(crate::specs::Heads::directive_of, crate::specs::Heads::word_of))]
 pub fn directive(s: &[u8], c: Cursor, k: Skip, word: &[u8], rows: &mut [u32]) -> Read
     requires ready { Ready 0 s.now c }
     requires skips { Skips multiline_trivia s.now c.at.0 c.met k }
@@ -28,6 +29,7 @@ pub fn directive(s: &[u8], c: Cursor, k: Skip, word: &[u8], rows: &mut [u32]) ->
     mark::word(s, c, k, word, Kind::Word, 0, rows)
 }
 
+#[tactic(auto, unfolding(crate::specs::Heads::directive_of, crate::specs::Heads::word_of))]
 pub fn else_head(s: &[u8], c: Cursor, k: Skip, rows: &mut [u32]) -> Read
     requires ready { Ready 0 s.now c }
     requires skips { Skips multiline_trivia s.now c.at.0 c.met k }
@@ -97,6 +99,7 @@ pub fn data_head(s: &[u8], c: Cursor, k: Skip, rows: &mut [u32]) -> Read
 }
 
 // The arguments of `.byte` and `.trace`.
+#[tactic(auto, using(crate::proofs::Arguments::reads_arguments))]
 pub fn expression_arg_list(s: &[u8], c: Cursor, left: usize, rows: &mut [u32]) -> Read
     requires ready { Ready 0 s.now c }
     requires behind_byte { 1 ≤ c.at.0 }

@@ -109,6 +109,7 @@ pub fn import_head(s: &[u8], c: Cursor, k: Skip, rows: &mut [u32]) -> Read
 }
 
 // The file's name.
+#[tactic(auto, using(crate::proofs::Steps::flat_leaf))]
 pub fn import_file(s: &[u8], c: Cursor, rows: &mut [u32]) -> Read
     requires { Ready 0 s.now c }
     ensures { Flat quoted_string s.now c rows.old rows.new result }

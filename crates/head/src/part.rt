@@ -12,6 +12,7 @@ use lexis::{identifier, mark};
 use table::Kind;
 
 // A character behind its trivia.
+#[tactic(auto, unfolding(crate::specs::Heads::char_of))]
 pub fn char(s: &[u8], c: Cursor, b: u8, rows: &mut [u32]) -> Read
     requires { Ready 0 s.now c }
     ensures { Leafs (char_of b) s.now c rows.old rows.new result }
@@ -20,6 +21,7 @@ pub fn char(s: &[u8], c: Cursor, b: u8, rows: &mut [u32]) -> Read
     mark::char(s, c, k, b, rows)
 }
 
+#[tactic(auto, unfolding(reading::specs::Rules::name))]
 pub fn name(s: &[u8], c: Cursor, rows: &mut [u32]) -> Read
     requires { Ready 0 s.now c }
     ensures { Leafs name s.now c rows.old rows.new result }
@@ -28,6 +30,7 @@ pub fn name(s: &[u8], c: Cursor, rows: &mut [u32]) -> Read
     identifier::name(s, c, k, rows)
 }
 
+#[tactic(auto, unfolding(reading::specs::Rules::path))]
 pub fn path(s: &[u8], c: Cursor, rows: &mut [u32]) -> Read
     requires { Ready 0 s.now c }
     ensures { Leafs path s.now c rows.old rows.new result }
@@ -54,6 +57,7 @@ pub fn expression(s: &[u8], c: Cursor, left: usize, rows: &mut [u32]) -> Read
 }
 
 // What was tried from `c` on may be missing.
+#[tactic(auto, unfolding(crate::specs::Parts::optional))]
 pub fn optional(c: Cursor, f: Read) -> Read
     ensures { result ≡ optional c f }
 {
