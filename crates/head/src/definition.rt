@@ -1,13 +1,13 @@
 // Labels, variables, the program counter, config maps and macros.
 ghost use Rattle.std.specs.Prelude.{◌^◌, ◌≤◌, ◌<◌, length};
-ghost use Rattle.reading.specs.Rules.{multiline_trivia, identifier_arg_list, variable_definition, const_definition, pc_definition, macro_invocation};
+ghost use Rattle.reading.specs.Rules.{multiline_trivia, name, identifier_arg_list, variable_definition, const_definition, pc_definition, macro_invocation};
 ghost use Rattle.cursor.specs.Text.{Skips};
 ghost use Rattle.cursor.specs.Agree.{Ready, Reads};
 ghost use Rattle.head.specs.Parts.{Flat};
 ghost use Rattle.head.specs.Heads.{assigned, named, varconst, label_head, define_head, parameters, macro_head};
 
 use crate::{directive, part};
-use cursor::{Cursor, Read, Skip, Stop};
+use cursor::{Cursor, Read, Skip};
 use lexis::{identifier, mark};
 use table::Kind;
 
@@ -116,20 +116,22 @@ pub fn define_head(s: &[u8], c: Cursor, k: Skip, rows: &mut [u32]) -> Read
     part::name(s, d, rows)
 }
 
-// Names with commas between them. The last one, which the written reading tries with a comma and without, is read once.
+// A name in a list.
+#[tactic(auto, using(crate::proofs::Steps::flat_leaf))]
+fn parameter(s: &[u8], c: Cursor, rows: &mut [u32]) -> Read
+    requires { Ready 0 s.now c }
+    ensures { Flat name s.now c rows.old rows.new result }
+{
+    part::name(s, c, rows)
+}
+
+// Names with commas between them.
+#[tactic(auto, unfolding(reading::specs::Rules::identifier_arg_list))]
 fn identifier_arg_list(s: &[u8], c: Cursor, rows: &mut [u32]) -> Read
     requires { Ready 0 s.now c }
     ensures { Flat identifier_arg_list s.now c rows.old rows.new result }
 {
-    let mut next = c;
-    loop {
-        let last = part::name(s, next, rows)?;
-        match part::char(s, last, b',', rows) {
-            Ok(e) => next = e,
-            Err(Stop::Miss(met)) => return Ok(Cursor { met, ..last }),
-            Err(Stop::Deep) => return Err(Stop::Deep),
-        }
-    }
+    part::list(s, c, |d, rows| parameter(s, d, rows), rows)
 }
 
 // Names in parentheses, or none in them.

@@ -52,20 +52,12 @@ fn specific_arg(s: &[u8], c: Cursor, rows: &mut [u32]) -> Read
     part::whole(c, k, f, Kind::ImportArgument, rows)
 }
 
-// Those with commas between them; the last one is read once.
+// Those with commas between them.
 fn specific_args(s: &[u8], c: Cursor, rows: &mut [u32]) -> Read
     requires { Ready 0 s.now c }
     ensures { Flat (arg_list specific_arg) s.now c rows.old rows.new result }
 {
-    let mut next = c;
-    loop {
-        let last = specific_arg(s, next, rows)?;
-        match part::char(s, last, b',', rows) {
-            Ok(e) => next = e,
-            Err(Stop::Miss(met)) => return Ok(Cursor { met, ..last }),
-            Err(Stop::Deep) => return Err(Stop::Deep),
-        }
-    }
+    part::list(s, c, |d, rows| specific_arg(s, d, rows), rows)
 }
 
 // `*`, which may have a new name too.

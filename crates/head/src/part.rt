@@ -1,10 +1,11 @@
 // What statements are made of.
 ghost use Rattle.std.specs.Prelude.{◌≡◌};
-ghost use Rattle.reading.specs.Rules.{name, path, expression};
+ghost use Rattle.reading.specs.Rules.{name, path, expression, arg_list};
+ghost use Rattle.head.specs.Lists.{Item, item_of};
 ghost use Rattle.cursor.specs.Agree.{Ready, Reads, Leafs};
 ghost use Rattle.literal.specs.Parts.{string_of};
 ghost use Rattle.table.specs.Kinds.{kind_number};
-ghost use Rattle.head.specs.Parts.{optional, Whole, Closable};
+ghost use Rattle.head.specs.Parts.{Flat, optional, Whole, Closable};
 ghost use Rattle.head.specs.Heads.{char_of};
 
 use cursor::{Cursor, Read, Skip, Stop};
@@ -37,6 +38,30 @@ pub fn path(s: &[u8], c: Cursor, rows: &mut [u32]) -> Read
 {
     let k = trivia::trivia(s, c.at, c.met);
     identifier::path(s, c, k, rows)
+}
+
+// Items with commas between them. The last one, which the written reading tries with a comma and without, is read once.
+pub(crate) fn list<F: Fn(Cursor, &mut [u32]) -> Read>(
+    s: &[u8],
+    c: Cursor,
+    item: F,
+    rows: &mut [u32],
+) -> Read
+    ghost listed: { Item }
+    requires ready { Ready 0 s.now c }
+    requires callable { (d : _) (t : _) → Ready 0 s.now d → F.pre item d t }
+    requires reads { (d : _) (t : _) (r : _) (u : _) → Ready 0 s.now d → F.post item d t r u → Flat (item_of listed) s.now d t.now u.now r }
+    ensures { Flat (arg_list (item_of listed)) s.now c rows.old rows.new result }
+{
+    let mut next = c;
+    loop {
+        let last = item(next, rows)?;
+        match char(s, last, b',', rows) {
+            Ok(e) => next = e,
+            Err(Stop::Miss(met)) => return Ok(Cursor { met, ..last }),
+            Err(Stop::Deep) => return Err(Stop::Deep),
+        }
+    }
 }
 
 // A string, with paths in braces or without.
