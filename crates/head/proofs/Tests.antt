@@ -7,14 +7,15 @@ use lib.Dec.{T, le→leb}
 use lib.ListN.{length}
 use Rattle.reading.specs.Grammar.{◌▸◌, never, pick}
 use Rattle.reading.specs.Kind.{wordᵏ, mnemonicᵏ}
-use Rattle.reading.specs.Rules.{opt, word, ws, multiline_trivia, name, expression, operand, call_parens, identifier_arg_list, expression_arg_list, encoding, all_rules}
-use Rattle.reading.specs.Rules.{as', specific_arg, import_args, path}
+use Rattle.reading.specs.Rules.{opt, word, ws, multiline_trivia, expression, operand, call_parens, identifier_arg_list, expression_arg_list, encoding, all_rules}
+use Rattle.reading.specs.Rules.{as', import_args, path}
 use Rattle.reading.proofs.Tests.{quiet}
 use Rattle.cursor.proofs.Laws.{Solid}
 use Rattle.literal.specs.Parts.{string_of}
 use Rattle.word.specs.Words.{mnemonic_list}
 use Rattle.head.specs.Heads.{char_of, word_of, assigned, named, encoded, asserted, traced}
 use Rattle.head.specs.Lists.{Item, names, import_arguments, item_of}
+use Rattle.head.specs.Tails.{Tail, an_expression, a_text, an_assertion, a_trace, tail_of}
 use Rattle.head.proofs.Bounds.{Owing}
 
 -- Leaves ---------------------------------------------------------------------
@@ -92,6 +93,12 @@ asserted_owing = record { quieted = tt; slimmed = tt; owing = tt }
 pub traced_owing : Owing 0 (opt traced)
 unfolding all_rules traced
 traced_owing = record { quieted = tt; slimmed = tt; owing = tt }
+
+pub tail_owing : (t : Tail) → Owing 0 (tail_of t)
+tail_owing an_expression = expression_owing
+tail_owing a_text = encoded_owing
+tail_owing an_assertion = asserted_owing
+tail_owing a_trace = traced_owing
 
 -- Lists ------------------------------------------------------------------------
 
