@@ -1,5 +1,5 @@
 use mathlib.Core.Path.{refl}
-use Rattle.std.proofs.lemmas.Result.{err_from_is_err_and}
+use Rattle.literal.proofs.Exits.{passed}
 use Rattle.table.specs.Kinds.{kind_number}
 use Rattle.head.proofs.Wholes.{over_stop}
 use Rattle.head.specs.Heads.{directive_of}
@@ -12,8 +12,7 @@ use Rattle.head.proofs.directive.worded.Goals as goal
 
 pub returns-in_err-d : goal.returns-in_err-d
 returns-in_err-d g c =
-    let p = err_from_is_err_and c.from_residual.result c.from_residual.ensures.1 in
-    rw (p.1, p.2) (over_stop (kind_number c.args.kind) (tail_of g.behind) (c.in_err-d.ensures.reads _) refl)
+    rw (passed c.from_residual.ensures.1) (over_stop (kind_number c.args.kind) (tail_of g.behind) (c.in_err-d.ensures.reads _) refl)
 
 pub tail-g-requires : goal.tail-g-requires
 unfolding directive_of

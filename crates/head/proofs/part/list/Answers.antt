@@ -1,6 +1,6 @@
 use mathlib.Core.Path.{ap, sym, ◌∙◌}
 use Rattle.std.specs.Prelude.{Err, is_err}
-use Rattle.std.proofs.lemmas.Result.{err_from_is_err_and}
+use Rattle.literal.proofs.Exits.{passed}
 use native.Mathlib.Omega.{arith}
 use Rattle.cursor.proofs.Laws.{stepped, leaf_deep}
 use Rattle.cursor.proofs.Loops.{listed_none, list_out, list_step, list_last, list_more}
@@ -23,8 +23,7 @@ unfolding char_of
 returns-in_err-last g c =
     let i = progress_ready (c.loop-item.invariant 0).progress c.requires.1.0 in
     let a = c.requires.1.1.1 _ _ _ _ i c.item.ensures in
-    let p = err_from_is_err_and c.from_residual.result c.from_residual.ensures.1 in
-    rw (p.1, p.2) (record { reads = λ left. reads_as (sym c.in_err-last.was) (list_out (c.loop-item.invariant left) (a.reads left) (ap is_err c.in_err-last.was)) })
+    rw (passed c.from_residual.ensures.1) (record { reads = λ left. reads_as (sym c.in_err-last.was) (list_out (c.loop-item.invariant left) (a.reads left) (ap is_err c.in_err-last.was)) })
 
 pub char-requires : goal.char-requires
 char-requires g c =

@@ -1,12 +1,11 @@
 use mathlib.Core.Path.{refl}
-use Rattle.std.proofs.lemmas.Result.{err_from_is_err_and}
+use Rattle.literal.proofs.Exits.{passed}
 use Rattle.literal.proofs.Numbers.{number_out, number_spans, number_got}
 use Rattle.literal.proofs.number.number.Goals as goal
 
 pub returns-in_err-d : goal.returns-in_err-d
 returns-in_err-d c =
-    let p = err_from_is_err_and c.from_residual.result c.from_residual.ensures.1 in
-    rw (p.1, p.2) (number_out c.requires.ready.within c.in_err-d.ensures refl)
+    rw (passed c.from_residual.ensures.1) (number_out c.requires.ready.within c.in_err-d.ensures refl)
 
 pub around-requires-clause-spans : goal.around-requires-clause-spans
 around-requires-clause-spans c = number_spans c.requires.ready.within c.in_ok-d.ensures _ refl c.requires.ready

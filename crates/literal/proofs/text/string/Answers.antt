@@ -1,13 +1,12 @@
 use mathlib.Core.Path.{refl}
-use Rattle.std.proofs.lemmas.Result.{err_from_is_err_and}
+use Rattle.literal.proofs.Exits.{passed}
 use mathlib.Core.Path.{sym, ◌∙◌}
 use Rattle.literal.proofs.Strings.{string_out, quote_ready, string_no, string_spans, string_open, string_got}
 use Rattle.literal.proofs.text.string.Goals as goal
 
 pub returns-in_err-d : goal.returns-in_err-d
 returns-in_err-d c =
-    let p = err_from_is_err_and c.from_residual.result c.from_residual.ensures.1 in
-    rw (p.1, p.2) (string_out c.args.interpolated c.requires.skips c.in_err-d.ensures refl)
+    rw (passed c.from_residual.ensures.1) (string_out c.args.interpolated c.requires.skips c.in_err-d.ensures refl)
 
 pub items-requires : goal.items-requires
 items-requires c =
@@ -15,8 +14,7 @@ items-requires c =
 
 pub returns-in_err-e : goal.returns-in_err-e
 returns-in_err-e c =
-    let p = err_from_is_err_and c.from_residual-in_err-e.result c.from_residual-in_err-e.ensures.1 in
-    rw (p.1, p.2) (string_no c.args.interpolated c.requires.skips c.in_ok-d.ensures _ refl c.in_err-e.ensures refl)
+    rw (passed c.from_residual-in_err-e.ensures.1) (string_no c.args.interpolated c.requires.skips c.in_ok-d.ensures _ refl c.in_err-e.ensures refl)
 
 pub returns-then-not-byte_is : goal.returns-then-not-byte_is
 returns-then-not-byte_is c =
