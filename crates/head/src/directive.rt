@@ -111,6 +111,7 @@ pub fn expression_arg_list(s: &[u8], c: Cursor, left: usize, rows: &mut [u32]) -
 }
 
 // A directive, what `tail` reads behind it, and the row around both.
+// `.file` is told no level to hand on, and definitions and instructions begin with other rows: they take the three steps themselves.
 fn worded<F: Fn(Cursor, usize, &mut [u32]) -> Read>(
     s: &[u8],
     c: Cursor,
@@ -241,6 +242,7 @@ fn traced(s: &[u8], c: Cursor, left: usize, rows: &mut [u32]) -> Read
 }
 
 // Those or nothing.
+#[tactic(auto, using(crate::proofs::Steps::reads_optional))]
 fn optional_traced(s: &[u8], c: Cursor, left: usize, rows: &mut [u32]) -> Read
     requires { Ready 0 s.now c }
     ensures { Reads (opt traced) s.now c left rows.old rows.new result }

@@ -79,9 +79,9 @@ pub fn string(s: &[u8], c: Cursor, k: Skip, interpolated: bool, rows: &mut [u32]
     if !trivia::byte_is(s, e.at, b'"') {
         return Err(Stop::Miss(e.met));
     }
-    let high = Cursor {
+    let end = Cursor {
         at: Pos(e.at.0 + 1),
         ..e
     };
-    Ok(mark::around(c, k.at, high, Kind::String, 0, rows))
+    Ok(mark::around(c, k.at, end, Kind::String, 0, rows))
 }
