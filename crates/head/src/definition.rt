@@ -131,7 +131,7 @@ fn identifier_arg_list(s: &[u8], c: Cursor, rows: &mut [u32]) -> Read
     requires { Ready 0 s.now c }
     ensures { Flat identifier_arg_list s.now c rows.old rows.new result }
 {
-    part::list(s, c, |d, rows| parameter(s, d, rows), rows)
+    part::list(s, c, parameter, rows)
 }
 
 // Names in parentheses, or none in them.

@@ -112,7 +112,7 @@ pub fn expression_arg_list(s: &[u8], c: Cursor, left: usize, rows: &mut [u32]) -
 
 // A directive, what `tail` reads behind it, and the row around both.
 // `.file` is told no level to hand on, and definitions and instructions begin with other rows: they take the three steps themselves.
-fn worded<F: Fn(Cursor, usize, &mut [u32]) -> Read>(
+fn worded<F: Fn(&[u8], Cursor, usize, &mut [u32]) -> Read>(
     s: &[u8],
     c: Cursor,
     k: Skip,
@@ -126,12 +126,12 @@ fn worded<F: Fn(Cursor, usize, &mut [u32]) -> Read>(
     requires ready { Ready 0 s.now c }
     requires skips { Skips multiline_trivia s.now c.at.0 c.met k }
     requires nonempty { 1 ≤ length word.now }
-    requires callable { (d : _) (t : _) → Ready 0 s.now d → F.pre tail d left t }
-    requires reads { (d : _) (t : _) (r : _) (u : _) → Ready 0 s.now d → F.post tail d left t r u → Reads (tail_of behind) s.now d left t.now u.now r }
+    requires callable { (d : _) (t : _) → Ready 0 s.now d → F.pre tail s d left t }
+    requires reads { (d : _) (t : _) (r : _) (u : _) → Ready 0 s.now d → F.post tail s d left t r u → Reads (tail_of behind) s.now d left t.now u.now r }
     ensures { Reads (over (kind_number kind) 0 (directive_of word.now) (tail_of behind)) s.now c left rows.old rows.new result }
 {
     let d = directive(s, c, k, word, rows)?;
-    let g = tail(d, left, rows);
+    let g = tail(s, d, left, rows);
     part::whole(c, k, g, kind, rows)
 }
 
@@ -147,7 +147,7 @@ pub fn align(s: &[u8], c: Cursor, k: Skip, left: usize, rows: &mut [u32]) -> Rea
         k,
         b".align",
         Kind::Align,
-        |d, left, rows| part::expression(s, d, left, rows),
+        part::expression,
         left,
         rows,
     )
@@ -180,16 +180,7 @@ pub fn text(s: &[u8], c: Cursor, k: Skip, left: usize, rows: &mut [u32]) -> Read
     requires skips { Skips multiline_trivia s.now c.at.0 c.met k }
     ensures { Reads text s.now c left rows.old rows.new result }
 {
-    worded(
-        s,
-        c,
-        k,
-        b".text",
-        Kind::Text,
-        |d, left, rows| encoded(s, d, left, rows),
-        left,
-        rows,
-    )
+    worded(s, c, k, b".text", Kind::Text, encoded, left, rows)
 }
 
 pub fn file(s: &[u8], c: Cursor, k: Skip, rows: &mut [u32]) -> Read
@@ -218,16 +209,7 @@ pub fn assert(s: &[u8], c: Cursor, k: Skip, left: usize, rows: &mut [u32]) -> Re
     requires skips { Skips multiline_trivia s.now c.at.0 c.met k }
     ensures { Reads assert s.now c left rows.old rows.new result }
 {
-    worded(
-        s,
-        c,
-        k,
-        b".assert",
-        Kind::Assert,
-        |d, left, rows| asserted(s, d, left, rows),
-        left,
-        rows,
-    )
+    worded(s, c, k, b".assert", Kind::Assert, asserted, left, rows)
 }
 
 // Arguments in parentheses, or none in them. They are no level.
@@ -257,14 +239,5 @@ pub fn trace(s: &[u8], c: Cursor, k: Skip, left: usize, rows: &mut [u32]) -> Rea
     requires skips { Skips multiline_trivia s.now c.at.0 c.met k }
     ensures { Reads trace s.now c left rows.old rows.new result }
 {
-    worded(
-        s,
-        c,
-        k,
-        b".trace",
-        Kind::Trace,
-        |d, left, rows| optional_traced(s, d, left, rows),
-        left,
-        rows,
-    )
+    worded(s, c, k, b".trace", Kind::Trace, optional_traced, left, rows)
 }

@@ -57,7 +57,7 @@ fn specific_args(s: &[u8], c: Cursor, rows: &mut [u32]) -> Read
     requires { Ready 0 s.now c }
     ensures { Flat (arg_list specific_arg) s.now c rows.old rows.new result }
 {
-    part::list(s, c, |d, rows| specific_arg(s, d, rows), rows)
+    part::list(s, c, specific_arg, rows)
 }
 
 // `*`, which may have a new name too.

@@ -41,7 +41,7 @@ pub fn path(s: &[u8], c: Cursor, rows: &mut [u32]) -> Read
 }
 
 // Items with commas between them. The last one, which the written reading tries with a comma and without, is read once.
-pub(crate) fn list<F: Fn(Cursor, &mut [u32]) -> Read>(
+pub(crate) fn list<F: Fn(&[u8], Cursor, &mut [u32]) -> Read>(
     s: &[u8],
     c: Cursor,
     item: F,
@@ -49,13 +49,13 @@ pub(crate) fn list<F: Fn(Cursor, &mut [u32]) -> Read>(
 ) -> Read
     ghost listed: { Item }
     requires ready { Ready 0 s.now c }
-    requires callable { (d : _) (t : _) → Ready 0 s.now d → F.pre item d t }
-    requires reads { (d : _) (t : _) (r : _) (u : _) → Ready 0 s.now d → F.post item d t r u → Flat (item_of listed) s.now d t.now u.now r }
+    requires callable { (d : _) (t : _) → Ready 0 s.now d → F.pre item s d t }
+    requires reads { (d : _) (t : _) (r : _) (u : _) → Ready 0 s.now d → F.post item s d t r u → Flat (item_of listed) s.now d t.now u.now r }
     ensures { Flat (arg_list (item_of listed)) s.now c rows.old rows.new result }
 {
     let mut next = c;
     loop {
-        let last = item(next, rows)?;
+        let last = item(s, next, rows)?;
         match char(s, last, b',', rows) {
             Ok(e) => next = e,
             Err(Stop::Miss(met)) => return Ok(Cursor { met, ..last }),

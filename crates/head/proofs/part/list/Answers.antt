@@ -43,7 +43,7 @@ loop-item-preserved g c =
     let i = progress_ready (c.loop-item.invariant 0).progress c.requires.1.0 in
     let a = c.requires.1.1.1 _ _ _ _ i c.item.ensures in
     λ left. list_more (c.loop-item.invariant left) (a.reads left) (item_solid g.listed) _ c.in_ok-last.was c.char.ensures (item_comma_solid g.listed) _
-    c.in-Ok.is c.item.auto.arg3 c.char.auto.rows
+    c.in-Ok.is c.item.auto.arg4 c.char.auto.rows
 
 pub returns-in-Err-Miss : goal.returns-in-Err-Miss
 unfolding char_of
