@@ -57,11 +57,11 @@ closable ok few h x i j a =
           let y = next ok i a q in
           let z = y.ready in
           record {
-            grown = omega (arith, y.grown);
-            few = omega (arith, z.few, z.within, z.small);
-            tlow = omega (arith, h.within, h.small);
-            low = omega (arith, x.within, h.small);
-            high = omega (arith, z.within, z.small);
+            grown = omega (arith, j, y.grown);
+            few = omega (arith, few, z.few, z.within, z.small);
+            start = omega (arith, h.within, h.small);
+            body = omega (arith, x.within, h.small);
+            end = omega (arith, z.within, z.small);
           };
     }
 

@@ -7,13 +7,15 @@ use lib.Dec.{T, le→leb}
 use lib.ListN.{length}
 use Rattle.reading.specs.Grammar.{◌▸◌, never, pick}
 use Rattle.reading.specs.Kind.{wordᵏ, mnemonicᵏ}
-use Rattle.reading.specs.Rules.{opt, word, ws, multiline_trivia, name, expression, operand, call_parens, identifier_arg_list, expression_arg_list, encoding, all_rules}
-use Rattle.reading.specs.Rules.{as', specific_arg, import_args, path}
+use Rattle.reading.specs.Rules.{opt, word, ws, multiline_trivia, expression, operand, call_parens, identifier_arg_list, expression_arg_list, encoding, all_rules}
+use Rattle.reading.specs.Rules.{as', import_args, path}
 use Rattle.reading.proofs.Tests.{quiet}
 use Rattle.cursor.proofs.Laws.{Solid}
 use Rattle.literal.specs.Parts.{string_of}
 use Rattle.word.specs.Words.{mnemonic_list}
 use Rattle.head.specs.Heads.{char_of, word_of, assigned, named, encoded, asserted, traced}
+use Rattle.head.specs.Lists.{Item, names, import_arguments, item_of}
+use Rattle.head.specs.Tails.{Tail, an_expression, a_text, an_assertion, a_trace, tail_of}
 use Rattle.head.proofs.Bounds.{Owing}
 
 -- Leaves ---------------------------------------------------------------------
@@ -92,15 +94,17 @@ pub traced_owing : Owing 0 (opt traced)
 unfolding all_rules traced
 traced_owing = record { quieted = tt; slimmed = tt; owing = tt }
 
+pub tail_owing : (t : Tail) → Owing 0 (tail_of t)
+tail_owing an_expression = expression_owing
+tail_owing a_text = encoded_owing
+tail_owing an_assertion = asserted_owing
+tail_owing a_trace = traced_owing
+
 -- Lists ------------------------------------------------------------------------
 
 pub names_owing : Owing 0 (opt identifier_arg_list)
 unfolding all_rules
 names_owing = record { quieted = tt; slimmed = tt; owing = tt }
-
-pub name_comma_solid : Solid (name ▸ char_of 44)
-unfolding all_rules char_of
-name_comma_solid = record { quieted = tt; slimmed = tt; rooting = tt; paying = tt }
 
 pub as_solid : Solid (ws wordᵏ 0 (word "as"))
 unfolding all_rules
@@ -110,13 +114,16 @@ pub renamed_owing : Owing 0 (path ▸ as')
 unfolding all_rules
 renamed_owing = record { quieted = tt; slimmed = tt; owing = tt }
 
-pub specific_solid : Solid specific_arg
+pub item_solid : (i : Item) → Solid (item_of i)
 unfolding all_rules
-specific_solid = record { quieted = tt; slimmed = tt; rooting = tt; paying = tt }
+item_solid names = record { quieted = tt; slimmed = tt; rooting = tt; paying = tt }
+item_solid import_arguments = record { quieted = tt; slimmed = tt; rooting = tt; paying = tt }
 
-pub specific_comma_solid : Solid (specific_arg ▸ char_of 44)
+-- with the comma behind it
+pub item_comma_solid : (i : Item) → Solid (item_of i ▸ char_of 44)
 unfolding all_rules char_of
-specific_comma_solid = record { quieted = tt; slimmed = tt; rooting = tt; paying = tt }
+item_comma_solid names = record { quieted = tt; slimmed = tt; rooting = tt; paying = tt }
+item_comma_solid import_arguments = record { quieted = tt; slimmed = tt; rooting = tt; paying = tt }
 
 pub import_args_owing : Owing 0 import_args
 unfolding all_rules

@@ -18,6 +18,7 @@ use Rattle.cursor.specs.Read.{Read}
 use Rattle.cursor.proofs.Agree.{got_err}
 use Rattle.cursor.proofs.Laws.{node_out, node_got, over_out, over_no, over_got}
 use Rattle.cursor.proofs.Lows.{First}
+use Rattle.lexis.specs.Around.{Finished}
 use Rattle.head.specs.Parts.{whole_rows, whole_answer, Whole, Closable}
 use Rattle.head.proofs.Steps.{reads_as}
 use Rattle.cursor.specs.declared.Stop.TheVariants.{Miss, Deep}
@@ -31,11 +32,12 @@ module _ (kind : ℕ) (c : Cursor) (k : Skip) where
   whole_none (Err (Miss m)) t h = record { table = refl; answer = refl }
   whole_none (Err Deep) t h = record { table = refl; answer = refl }
 
-  pub whole_some : {f : Read} {e : Cursor} → f ≡ Ok e → {t t' : List ℕ}
-      → t' ≡ pushed row_width t e.count.0 (row_record kind (e.count.0 + 1 - c.count.0) c.at.0 k.at.0 e.at.0 0)
-      → Whole kind c k f t t' (Ok (cursor e.at.0 (e.count.0 + 1) e.met))
+  pub whole_some : {f : Read} {e : Cursor} → f ≡ Ok e → {t t' : List ℕ} {z : Cursor} → Finished kind 0 c k.at.0 e t t' z → Whole kind c k f t t' (Ok z)
   unfolding whole_rows whole_answer
-  whole_some {e = e} q {t} h = record { table = h ∙ sym (ap (whole_rows kind c k t) q); answer = sym (ap whole_answer q) }
+  whole_some {e = e} q {t} {t'} a =
+      let size : a.size ≡ e.count.0 + 1 - c.count.0 = omega (arith, a.counts) in
+      let table = subst (λ (n : ℕ). t' ≡ pushed row_width t e.count.0 (row_record kind n c.at.0 k.at.0 e.at.0 0)) size a.table in
+      record { table = table ∙ sym (ap (whole_rows kind c k t) q); answer = ap Ok a.is ∙ sym (ap whole_answer q) }
 
 -- over, from the answer of its first child and that of the others
 module _ (kind : ℕ) {m : Parser} (n : Parser) {s : List ℕ} {c : Cursor} {left : ℕ} {t t₁ : List ℕ} {r₁ : Read} (a : Reads m s c left t t₁ r₁) where

@@ -1,2 +1,4 @@
 pub mod Parts
 pub mod Heads
+pub mod Lists
+pub mod Tails

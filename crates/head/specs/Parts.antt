@@ -1,5 +1,5 @@
 -- What the answers of parts mean for the whole.
-use Rattle.std.specs.Prelude.{List, ◌≡◌, ℕ, ◌+◌, ◌-◌, ◌^◌, ◌≤◌, ◌<◌, Ok, Err}
+use Rattle.std.specs.Prelude.{List, ◌≡◌, ℕ, ◌+◌, ◌-◌, Ok, Err}
 use Rattle.reading.specs.Grammar.{Parser}
 use Rattle.reading.specs.Table.{row_width}
 use Rattle.table.specs.Words.{pushed, row_record}
@@ -8,6 +8,7 @@ use Rattle.cursor.specs.Agree.{Reads}
 use Rattle.cursor.specs.declared.Cursor.{Cursor}
 use Rattle.cursor.specs.declared.Skip.{Skip}
 use Rattle.cursor.specs.Read.{Read}
+use Rattle.lexis.specs.Around.{Spans}
 use Rattle.cursor.specs.declared.Stop.TheVariants.{Miss, Deep}
 
 -- a function reads by a parser that enters no level: it is told no limit
@@ -42,13 +43,6 @@ pub record Whole (kind : ℕ) (c : Cursor) (k : Skip) (f : Read) (t t' : List �
   pub table : t' ≡ whole_rows kind c k t f
   pub answer : r ≡ whole_answer f
 
--- the row has room for its columns
-pub record Spans (c : Cursor) (k : Skip) (e : Cursor) : Type 0 where
-  pub grown : c.count.0 ≤ e.count.0
-  pub few : e.count.0 + 1 < 2 ^ 32
-  pub tlow : c.at.0 < 2 ^ 32
-  pub low : k.at.0 < 2 ^ 32
-  pub high : e.at.0 < 2 ^ 32
-
+-- if it was read, the row around it has room for its columns
 pub record Closable (c : Cursor) (k : Skip) (f : Read) : Type 0 where
-  pub spans : (e : Cursor) → f ≡ Ok e → Spans c k e
+  pub spans : (e : Cursor) → f ≡ Ok e → Spans c k.at.0 e

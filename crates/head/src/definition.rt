@@ -1,15 +1,20 @@
 // Labels, variables, the program counter, config maps and macros.
 ghost use Rattle.std.specs.Prelude.{◌^◌, ◌≤◌, ◌<◌, length};
-ghost use Rattle.reading.specs.Rules.{multiline_trivia, identifier_arg_list, variable_definition, const_definition, pc_definition, macro_invocation};
+ghost use Rattle.reading.specs.Rules.{multiline_trivia, name, identifier_arg_list, variable_definition, const_definition, pc_definition, macro_invocation};
 ghost use Rattle.cursor.specs.Text.{Skips};
 ghost use Rattle.cursor.specs.Agree.{Ready, Reads};
 ghost use Rattle.head.specs.Parts.{Flat};
 ghost use Rattle.head.specs.Heads.{assigned, named, varconst, label_head, define_head, parameters, macro_head};
 
 use crate::{directive, part};
-use cursor::{Cursor, Read, Skip, Stop};
+use cursor::{Cursor, Read, Skip};
 use lexis::{identifier, mark};
 use table::Kind;
+
+// Types of variables, as the details of their rows.
+const CONSTANT: usize = 1;
+
+const VARIABLE: usize = 2;
 
 // `=` and an expression.
 fn assigned(s: &[u8], c: Cursor, left: usize, rows: &mut [u32]) -> Read
@@ -40,7 +45,8 @@ fn varconst(
 ) -> Read
     requires ready { Ready 0 s.now c }
     requires skips { Skips multiline_trivia s.now c.at.0 c.met k }
-    requires in_bounds { (1 ≤ length word.now) × (detail < 2 ^ 32) }
+    requires nonempty { 1 ≤ length word.now }
+    requires detail_bound { detail < 2 ^ 32 }
     ensures { Reads (varconst word.now detail) s.now c left rows.old rows.new result }
 {
     let d = mark::word(s, c, k, word, Kind::VariableType, detail, rows)?;
@@ -48,20 +54,22 @@ fn varconst(
     part::whole(c, k, g, Kind::VariableDefinition, rows)
 }
 
+#[tactic(auto, unfolding(reading::specs::Rules::variable_definition, crate::specs::Heads::varconst, crate::specs::Heads::word_of, crate::specs::Heads::named, crate::specs::Heads::assigned))]
 pub fn variable_definition(s: &[u8], c: Cursor, k: Skip, left: usize, rows: &mut [u32]) -> Read
     requires ready { Ready 0 s.now c }
     requires skips { Skips multiline_trivia s.now c.at.0 c.met k }
     ensures { Reads variable_definition s.now c left rows.old rows.new result }
 {
-    varconst(s, c, k, b".var", 2, left, rows)
+    varconst(s, c, k, b".var", VARIABLE, left, rows)
 }
 
+#[tactic(auto, unfolding(reading::specs::Rules::const_definition, crate::specs::Heads::varconst, crate::specs::Heads::word_of, crate::specs::Heads::named, crate::specs::Heads::assigned))]
 pub fn const_definition(s: &[u8], c: Cursor, k: Skip, left: usize, rows: &mut [u32]) -> Read
     requires ready { Ready 0 s.now c }
     requires skips { Skips multiline_trivia s.now c.at.0 c.met k }
     ensures { Reads const_definition s.now c left rows.old rows.new result }
 {
-    varconst(s, c, k, b".const", 1, left, rows)
+    varconst(s, c, k, b".const", CONSTANT, left, rows)
 }
 
 pub fn pc_definition(s: &[u8], c: Cursor, k: Skip, left: usize, rows: &mut [u32]) -> Read
@@ -108,20 +116,22 @@ pub fn define_head(s: &[u8], c: Cursor, k: Skip, rows: &mut [u32]) -> Read
     part::name(s, d, rows)
 }
 
-// Names with commas between them. The last one, which the written reading tries with a comma and without, is read once.
+// A name in a list.
+#[tactic(auto, using(crate::proofs::Steps::flat_leaf))]
+fn parameter(s: &[u8], c: Cursor, rows: &mut [u32]) -> Read
+    requires { Ready 0 s.now c }
+    ensures { Flat name s.now c rows.old rows.new result }
+{
+    part::name(s, c, rows)
+}
+
+// Names with commas between them.
+#[tactic(auto, unfolding(reading::specs::Rules::identifier_arg_list))]
 fn identifier_arg_list(s: &[u8], c: Cursor, rows: &mut [u32]) -> Read
     requires { Ready 0 s.now c }
     ensures { Flat identifier_arg_list s.now c rows.old rows.new result }
 {
-    let mut next = c;
-    loop {
-        let last = part::name(s, next, rows)?;
-        match part::char(s, last, b',', rows) {
-            Ok(e) => next = e,
-            Err(Stop::Miss(met)) => return Ok(Cursor { met, ..last }),
-            Err(Stop::Deep) => return Err(Stop::Deep),
-        }
-    }
+    part::list(s, c, parameter, rows)
 }
 
 // Names in parentheses, or none in them.

@@ -1,10 +1,12 @@
 // Statements that begin with a directive, and the directives of those with a block.
 ghost use Rattle.std.specs.Prelude.{◌≤◌, length};
-ghost use Rattle.reading.specs.Grammar.{◌▸◌};
-ghost use Rattle.reading.specs.Rules.{directive, multiline_trivia, expression, expression_arg_list, encoding, data_size, align, text, file, assert, trace};
+ghost use Rattle.reading.specs.Grammar.{◌▸◌, over};
+ghost use Rattle.reading.specs.Rules.{opt, directive, multiline_trivia, expression, expression_arg_list, encoding, data_size, align, text, file, assert, trace};
 ghost use Rattle.cursor.specs.Text.{Skips};
 ghost use Rattle.cursor.specs.Agree.{Ready, Reads};
+ghost use Rattle.table.specs.Kinds.{kind_number};
 ghost use Rattle.head.specs.Parts.{Flat};
+ghost use Rattle.head.specs.Tails.{Tail, tail_of};
 ghost use Rattle.head.specs.Heads.{directive_of, directive_expression, wide_size, encoded, asserted, traced};
 
 use crate::part;
@@ -12,7 +14,15 @@ use cursor::{Cursor, Read, Skip, Stop};
 use lexis::{mark, operator};
 use table::Kind;
 
+// Sizes of data, as the details of their rows.
+const BYTE: usize = 1;
+
+const WORD: usize = 2;
+
+const DOUBLE_WORD: usize = 3;
+
 // A word in any letter case.
+#[tactic(auto, using(crate::proofs::Steps::flat_leaf), unfolding(crate::specs::Heads::directive_of, crate::specs::Heads::word_of))]
 pub fn directive(s: &[u8], c: Cursor, k: Skip, word: &[u8], rows: &mut [u32]) -> Read
     requires ready { Ready 0 s.now c }
     requires skips { Skips multiline_trivia s.now c.at.0 c.met k }
@@ -21,6 +31,7 @@ pub fn directive(s: &[u8], c: Cursor, k: Skip, word: &[u8], rows: &mut [u32]) ->
     mark::word(s, c, k, word, Kind::Word, 0, rows)
 }
 
+#[tactic(auto, unfolding(crate::specs::Heads::directive_of, crate::specs::Heads::word_of))]
 pub fn else_head(s: &[u8], c: Cursor, k: Skip, rows: &mut [u32]) -> Read
     requires ready { Ready 0 s.now c }
     requires skips { Skips multiline_trivia s.now c.at.0 c.met k }
@@ -40,7 +51,7 @@ pub fn directive_expression(
 ) -> Read
     requires ready { Ready 0 s.now c }
     requires skips { Skips multiline_trivia s.now c.at.0 c.met k }
-    requires in_bounds { 1 ≤ length word.now }
+    requires nonempty { 1 ≤ length word.now }
     ensures { Reads (directive_expression word.now) s.now c left rows.old rows.new result }
 {
     let d = directive(s, c, k, word, rows)?;
@@ -53,7 +64,7 @@ fn wide_size(s: &[u8], c: Cursor, k: Skip, rows: &mut [u32]) -> Read
     requires skips { Skips multiline_trivia s.now c.at.0 c.met k }
     ensures { Flat wide_size s.now c rows.old rows.new result }
 {
-    let met = match mark::word(s, c, k, b".word", Kind::DataSize, 2, rows) {
+    let met = match mark::word(s, c, k, b".word", Kind::DataSize, WORD, rows) {
         Err(Stop::Miss(met)) => met,
         read => return read,
     };
@@ -67,7 +78,7 @@ fn wide_size(s: &[u8], c: Cursor, k: Skip, rows: &mut [u32]) -> Read
         j,
         b".dword",
         Kind::DataSize,
-        3,
+        DOUBLE_WORD,
         rows,
     )
 }
@@ -78,7 +89,7 @@ pub fn data_head(s: &[u8], c: Cursor, k: Skip, rows: &mut [u32]) -> Read
     requires skips { Skips multiline_trivia s.now c.at.0 c.met k }
     ensures { Flat data_size s.now c rows.old rows.new result }
 {
-    let met = match mark::word(s, c, k, b".byte", Kind::DataSize, 1, rows) {
+    let met = match mark::word(s, c, k, b".byte", Kind::DataSize, BYTE, rows) {
         Err(Stop::Miss(met)) => met,
         read => return read,
     };
@@ -90,22 +101,56 @@ pub fn data_head(s: &[u8], c: Cursor, k: Skip, rows: &mut [u32]) -> Read
 }
 
 // The arguments of `.byte` and `.trace`.
+#[tactic(auto, using(crate::proofs::Arguments::reads_arguments))]
 pub fn expression_arg_list(s: &[u8], c: Cursor, left: usize, rows: &mut [u32]) -> Read
     requires ready { Ready 0 s.now c }
-    requires le_at { 1 ≤ c.at.0 }
+    requires behind_byte { 1 ≤ c.at.0 }
     ensures { Reads expression_arg_list s.now c left rows.old rows.new result }
 {
     expression::arguments(s, c, left, rows)
 }
 
+// A directive, what `tail` reads behind it, and the row around both.
+// `.file` is told no level to hand on, and definitions and instructions begin with other rows: they take the three steps themselves.
+fn worded<F: Fn(&[u8], Cursor, usize, &mut [u32]) -> Read>(
+    s: &[u8],
+    c: Cursor,
+    k: Skip,
+    word: &[u8],
+    kind: Kind,
+    tail: F,
+    left: usize,
+    rows: &mut [u32],
+) -> Read
+    ghost behind: { Tail }
+    requires ready { Ready 0 s.now c }
+    requires skips { Skips multiline_trivia s.now c.at.0 c.met k }
+    requires nonempty { 1 ≤ length word.now }
+    requires callable { (d : _) (t : _) → Ready 0 s.now d → F.pre tail s d left t }
+    requires reads { (d : _) (t : _) (r : _) (u : _) → Ready 0 s.now d → F.post tail s d left t r u → Reads (tail_of behind) s.now d left t.now u.now r }
+    ensures { Reads (over (kind_number kind) 0 (directive_of word.now) (tail_of behind)) s.now c left rows.old rows.new result }
+{
+    let d = directive(s, c, k, word, rows)?;
+    let g = tail(s, d, left, rows);
+    part::whole(c, k, g, kind, rows)
+}
+
+#[tactic(auto, unfolding(reading::specs::Rules::align, crate::specs::Heads::directive_of, crate::specs::Heads::word_of))]
 pub fn align(s: &[u8], c: Cursor, k: Skip, left: usize, rows: &mut [u32]) -> Read
     requires ready { Ready 0 s.now c }
     requires skips { Skips multiline_trivia s.now c.at.0 c.met k }
     ensures { Reads align s.now c left rows.old rows.new result }
 {
-    let d = directive(s, c, k, b".align", rows)?;
-    let g = part::expression(s, d, left, rows);
-    part::whole(c, k, g, Kind::Align, rows)
+    worded(
+        s,
+        c,
+        k,
+        b".align",
+        Kind::Align,
+        part::expression,
+        left,
+        rows,
+    )
 }
 
 // An encoding and an expression.
@@ -129,14 +174,13 @@ fn encoded(s: &[u8], c: Cursor, left: usize, rows: &mut [u32]) -> Read
     part::expression(s, Cursor { met, ..c }, left, rows)
 }
 
+#[tactic(auto, unfolding(reading::specs::Rules::text, crate::specs::Heads::directive_of, crate::specs::Heads::word_of, crate::specs::Heads::encoded))]
 pub fn text(s: &[u8], c: Cursor, k: Skip, left: usize, rows: &mut [u32]) -> Read
     requires ready { Ready 0 s.now c }
     requires skips { Skips multiline_trivia s.now c.at.0 c.met k }
     ensures { Reads text s.now c left rows.old rows.new result }
 {
-    let d = directive(s, c, k, b".text", rows)?;
-    let g = encoded(s, d, left, rows);
-    part::whole(c, k, g, Kind::Text, rows)
+    worded(s, c, k, b".text", Kind::Text, encoded, left, rows)
 }
 
 pub fn file(s: &[u8], c: Cursor, k: Skip, rows: &mut [u32]) -> Read
@@ -159,14 +203,13 @@ fn asserted(s: &[u8], c: Cursor, left: usize, rows: &mut [u32]) -> Read
     part::optional(d, g)
 }
 
+#[tactic(auto, unfolding(reading::specs::Rules::assert, crate::specs::Heads::directive_of, crate::specs::Heads::word_of, crate::specs::Heads::asserted))]
 pub fn assert(s: &[u8], c: Cursor, k: Skip, left: usize, rows: &mut [u32]) -> Read
     requires ready { Ready 0 s.now c }
     requires skips { Skips multiline_trivia s.now c.at.0 c.met k }
     ensures { Reads assert s.now c left rows.old rows.new result }
 {
-    let d = directive(s, c, k, b".assert", rows)?;
-    let g = asserted(s, d, left, rows);
-    part::whole(c, k, g, Kind::Assert, rows)
+    worded(s, c, k, b".assert", Kind::Assert, asserted, left, rows)
 }
 
 // Arguments in parentheses, or none in them. They are no level.
@@ -180,13 +223,21 @@ fn traced(s: &[u8], c: Cursor, left: usize, rows: &mut [u32]) -> Read
     part::char(s, e, b')', rows)
 }
 
+// Those or nothing.
+#[tactic(auto, using(crate::proofs::Steps::reads_optional))]
+fn optional_traced(s: &[u8], c: Cursor, left: usize, rows: &mut [u32]) -> Read
+    requires { Ready 0 s.now c }
+    ensures { Reads (opt traced) s.now c left rows.old rows.new result }
+{
+    let f = traced(s, c, left, rows);
+    part::optional(c, f)
+}
+
+#[tactic(auto, unfolding(reading::specs::Rules::trace, crate::specs::Heads::directive_of, crate::specs::Heads::word_of, crate::specs::Heads::traced))]
 pub fn trace(s: &[u8], c: Cursor, k: Skip, left: usize, rows: &mut [u32]) -> Read
     requires ready { Ready 0 s.now c }
     requires skips { Skips multiline_trivia s.now c.at.0 c.met k }
     ensures { Reads trace s.now c left rows.old rows.new result }
 {
-    let d = directive(s, c, k, b".trace", rows)?;
-    let g = traced(s, d, left, rows);
-    let h = part::optional(d, g);
-    part::whole(c, k, h, Kind::Trace, rows)
+    worded(s, c, k, b".trace", Kind::Trace, optional_traced, left, rows)
 }

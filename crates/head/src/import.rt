@@ -52,20 +52,12 @@ fn specific_arg(s: &[u8], c: Cursor, rows: &mut [u32]) -> Read
     part::whole(c, k, f, Kind::ImportArgument, rows)
 }
 
-// Those with commas between them; the last one is read once.
+// Those with commas between them.
 fn specific_args(s: &[u8], c: Cursor, rows: &mut [u32]) -> Read
     requires { Ready 0 s.now c }
     ensures { Flat (arg_list specific_arg) s.now c rows.old rows.new result }
 {
-    let mut next = c;
-    loop {
-        let last = specific_arg(s, next, rows)?;
-        match part::char(s, last, b',', rows) {
-            Ok(e) => next = e,
-            Err(Stop::Miss(met)) => return Ok(Cursor { met, ..last }),
-            Err(Stop::Deep) => return Err(Stop::Deep),
-        }
-    }
+    part::list(s, c, specific_arg, rows)
 }
 
 // `*`, which may have a new name too.
@@ -109,6 +101,7 @@ pub fn import_head(s: &[u8], c: Cursor, k: Skip, rows: &mut [u32]) -> Read
 }
 
 // The file's name.
+#[tactic(auto, using(crate::proofs::Steps::flat_leaf))]
 pub fn import_file(s: &[u8], c: Cursor, rows: &mut [u32]) -> Read
     requires { Ready 0 s.now c }
     ensures { Flat quoted_string s.now c rows.old rows.new result }

@@ -33,6 +33,7 @@ fn with_operand(s: &[u8], c: Cursor, k: Skip, left: usize, rows: &mut [u32]) -> 
 }
 
 // What was tried from `c` on is not read, whether it fits or not.
+#[tactic(auto, unfolding(crate::specs::Parts::tried))]
 fn tried(c: Cursor, f: Read) -> Read
     ensures { result ≡ tried c f }
 {

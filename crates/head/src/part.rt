@@ -1,17 +1,19 @@
 // What statements are made of.
-ghost use Rattle.std.specs.Prelude.{◌≡◌, ◌^◌, ◌<◌};
-ghost use Rattle.reading.specs.Rules.{name, path, expression};
+ghost use Rattle.std.specs.Prelude.{◌≡◌};
+ghost use Rattle.reading.specs.Rules.{name, path, expression, arg_list};
+ghost use Rattle.head.specs.Lists.{Item, item_of};
 ghost use Rattle.cursor.specs.Agree.{Ready, Reads, Leafs};
 ghost use Rattle.literal.specs.Parts.{string_of};
 ghost use Rattle.table.specs.Kinds.{kind_number};
-ghost use Rattle.head.specs.Parts.{optional, Whole, Closable};
+ghost use Rattle.head.specs.Parts.{Flat, optional, Whole, Closable};
 ghost use Rattle.head.specs.Heads.{char_of};
 
 use cursor::{Cursor, Read, Skip, Stop};
 use lexis::{identifier, mark};
-use table::{Kind, RowIndex};
+use table::Kind;
 
 // A character behind its trivia.
+#[tactic(auto, unfolding(crate::specs::Heads::char_of))]
 pub fn char(s: &[u8], c: Cursor, b: u8, rows: &mut [u32]) -> Read
     requires { Ready 0 s.now c }
     ensures { Leafs (char_of b) s.now c rows.old rows.new result }
@@ -20,6 +22,7 @@ pub fn char(s: &[u8], c: Cursor, b: u8, rows: &mut [u32]) -> Read
     mark::char(s, c, k, b, rows)
 }
 
+#[tactic(auto, unfolding(reading::specs::Rules::name))]
 pub fn name(s: &[u8], c: Cursor, rows: &mut [u32]) -> Read
     requires { Ready 0 s.now c }
     ensures { Leafs name s.now c rows.old rows.new result }
@@ -28,12 +31,37 @@ pub fn name(s: &[u8], c: Cursor, rows: &mut [u32]) -> Read
     identifier::name(s, c, k, rows)
 }
 
+#[tactic(auto, unfolding(reading::specs::Rules::path))]
 pub fn path(s: &[u8], c: Cursor, rows: &mut [u32]) -> Read
     requires { Ready 0 s.now c }
     ensures { Leafs path s.now c rows.old rows.new result }
 {
     let k = trivia::trivia(s, c.at, c.met);
     identifier::path(s, c, k, rows)
+}
+
+// Items with commas between them. The last one, which the written reading tries with a comma and without, is read once.
+pub(crate) fn list<F: Fn(&[u8], Cursor, &mut [u32]) -> Read>(
+    s: &[u8],
+    c: Cursor,
+    item: F,
+    rows: &mut [u32],
+) -> Read
+    ghost listed: { Item }
+    requires ready { Ready 0 s.now c }
+    requires callable { (d : _) (t : _) → Ready 0 s.now d → F.pre item s d t }
+    requires reads { (d : _) (t : _) (r : _) (u : _) → Ready 0 s.now d → F.post item s d t r u → Flat (item_of listed) s.now d t.now u.now r }
+    ensures { Flat (arg_list (item_of listed)) s.now c rows.old rows.new result }
+{
+    let mut next = c;
+    loop {
+        let last = item(s, next, rows)?;
+        match char(s, last, b',', rows) {
+            Ok(e) => next = e,
+            Err(Stop::Miss(met)) => return Ok(Cursor { met, ..last }),
+            Err(Stop::Deep) => return Err(Stop::Deep),
+        }
+    }
 }
 
 // A string, with paths in braces or without.
@@ -54,6 +82,7 @@ pub fn expression(s: &[u8], c: Cursor, left: usize, rows: &mut [u32]) -> Read
 }
 
 // What was tried from `c` on may be missing.
+#[tactic(auto, unfolding(crate::specs::Parts::optional))]
 pub fn optional(c: Cursor, f: Read) -> Read
     ensures { result ≡ optional c f }
 {
@@ -64,15 +93,10 @@ pub fn optional(c: Cursor, f: Read) -> Read
 }
 
 // The row around all that was read from `c` on, whose trivia ended at `k`, if its last part was read.
-pub fn whole(c: Cursor, k: Skip, f: Read, kind: Kind, rows: &mut [u32]) -> Read
+pub(crate) fn whole(c: Cursor, k: Skip, f: Read, kind: Kind, rows: &mut [u32]) -> Read
     requires { Closable c k f }
     ensures { Whole (kind_number kind) c k f rows.old rows.new result }
 {
     let e = f?;
-    let n = e.count.0;
-    table::push_row(rows, e.count, kind, n + 1 - c.count.0, c.at, k.at, e.at, 0);
-    Ok(Cursor {
-        count: RowIndex(n + 1),
-        ..e
-    })
+    Ok(mark::around(c, k.at, e, kind, 0, rows))
 }

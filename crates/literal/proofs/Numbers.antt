@@ -13,10 +13,8 @@ use Rattle.reading.specs.Grammar.{Rows, Input, Leaf, one, run1, tag_no_case, Par
 use Rattle.reading.specs.Kind.{numberᵏ, number_typeᵏ, number_textᵏ}
 use Rattle.reading.specs.Rules.{ws, word, trivia, decimal, number, all_rules}
 use Rattle.reading.specs.Summary.{Summary, fits, fails, more, thenˢ, elseˢ, withˢ, takeˢ, scan}
-use Rattle.reading.specs.Table.{row_width}
 use Rattle.trivia.specs.Class.{member}
 use Rattle.trivia.proofs.Pieces.{one_begins}
-use Rattle.table.specs.Words.{pushed, row_record}
 use Rattle.table.specs.declared.Pos.{Pos}
 use Rattle.cursor.proofs.Agree.{lost, got_miss, miss_deep}
 use Rattle.cursor.proofs.Laws.{Stepped, stepped, bare_no, empty_is, seq_got, or_miss, or_first, skips_empty, reading_is, reading_to, node_out, node_got}
@@ -27,6 +25,7 @@ use Rattle.cursor.specs.declared.Cursor.{Cursor}
 use Rattle.cursor.specs.Read.{Read}
 use Rattle.cursor.specs.declared.Skip.{Skip}
 use Rattle.lexis.specs.Behind.{Behind, Placed, Rowed}
+use Rattle.lexis.specs.Around.{Spans, Finished}
 use Rattle.lexis.specs.Finds.{read_of, Finds}
 use Rattle.lexis.proofs.Ends.{byte_at, end_in}
 use Rattle.lexis.proofs.Marks.{skips_again, behind_got, behind_found}
@@ -169,17 +168,18 @@ module _ {s : List ℕ} {c : Cursor} {k : Skip} (x : Skips trivia s c.at.0 c.met
       }
 
   pub decimal_leafs : {p : Pos} → Finds numeral s k.at.0 (Some p) → {d : Cursor} {t t₁ t' : List ℕ} {r₁ r : Read} → c.at.0 ≤ length s
-      → Rowed number_typeᵏ 2 c (skip c.at.0 c.met) c.at.0 t t₁ r₁ → r₁ ≡ Ok d → Rowed number_textᵏ 0 d k p.0 t₁ t' r
+      → {ty : ℕ} → ty ≡ 2 → Rowed number_typeᵏ ty c (skip c.at.0 c.met) c.at.0 t t₁ r₁ → r₁ ≡ Ok d → Rowed number_textᵏ 0 d k p.0 t₁ t' r
       → Leafs decimals s c t t' r
   unfolding decimal
-  decimal_leafs {p} f {d} {t} {t₁} {t'} {r₁} {r} h a e b =
+  decimal_leafs {p} f {d} {t} {t₁} {t'} {r₁} {r} h w a e b =
       record {
         reading = λ l lim. reading_is (decimals_is x l)
             (seq_got ((type.leafs empty (skips_empty s c.at.0 c.met h)).reading l lim) (ws number_textᵏ 0 numeral) tt d e (text l lim));
       }
     where
       type : Behind number_typeᵏ (always 2) empty s c (skip c.at.0 c.met) t t₁ r₁
-      type = behind_got number_typeᵏ 2 tt c.at.0 c.met (λ l lim. empty_is s l lim c.at.0 c.met c.count.0 t) a
+      type = behind_got number_typeᵏ 2 tt c.at.0 c.met (λ l lim. empty_is s l lim c.at.0 c.met c.count.0 t)
+          (subst (λ (n : ℕ). Rowed number_typeᵏ n c (skip c.at.0 c.met) c.at.0 t t₁ r₁) w a)
 
       text : (l lim : ℕ) → Reading (ws number_textᵏ 0 numeral) s l lim d.at.0 d.met d.count.0 t₁ t' r
       text l lim =
@@ -188,7 +188,7 @@ module _ {s : List ℕ} {c : Cursor} {k : Skip} (x : Skips trivia s c.at.0 c.met
 
   -- behind the type the text's row may be pushed
   pub decimal_placed : {d : Cursor} {t t₁ : List ℕ} {r₁ : Read} → Ready 4 s c
-      → Rowed number_typeᵏ 2 c (skip c.at.0 c.met) c.at.0 t t₁ r₁ → r₁ ≡ Ok d → Placed s d k
+      → {ty : ℕ} → Rowed number_typeᵏ ty c (skip c.at.0 c.met) c.at.0 t t₁ r₁ → r₁ ≡ Ok d → Placed s d k
   decimal_placed {d} h a e =
       subst (λ (d : Cursor). Placed s d k) (sym (behind_row d a e))
       (record { ready = record { small = h.small; within = h.within; few = omega (arith, h.few) }; on = x.on; within = x.within })
@@ -292,15 +292,22 @@ module _ {s : List ℕ} {c : Cursor} (h : c.at.0 ≤ length s) {t t₁ : List �
   number_out e = record { reading = λ l lim. node_out numberᵏ (always 0) (skips_empty s c.at.0 c.met h) (a.reading l lim) e }
 
   module _ (d : Cursor) (e : r₁ ≡ Ok d) where
-    pub number_got : (y : ℕ) → y + c.count.0 ≡ d.count.0 + 1 → {t' : List ℕ}
-        → t' ≡ pushed row_width t₁ d.count.0 (row_record numberᵏ y c.at.0 c.at.0 d.at.0 0)
-        → Leafs number s c t t' (Ok (cursor d.at.0 (d.count.0 + 1) d.met))
+    pub number_got : {t' : List ℕ} {z : Cursor} → Finished numberᵏ 0 c c.at.0 d t₁ t' z → Leafs number s c t t' (Ok z)
     unfolding number
-    number_got y z p =
-        record {
-          reading = λ l lim. reading_to p
-              (node_got numberᵏ (always 0) (skips_empty s c.at.0 c.met h) (a.reading l lim) value_solid.quieted d e y 0 z λ v b j q. refl);
-        }
+    number_got {t'} f =
+        subst (λ (z : Cursor). Leafs number s c t t' (Ok z)) (sym f.is)
+        (record {
+          reading = λ l lim. reading_to f.table
+              (node_got numberᵏ (always 0) (skips_empty s c.at.0 c.met h) (a.reading l lim) value_solid.quieted d e f.size 0 f.counts λ v b j q. refl);
+        })
 
-    pub number_step : Stepped s c.at.0 c.count.0 d
-    number_step = stepped value_solid d h (a.reading 0 0) e
+    pub number_spans : Ready 4 s c → Spans c c.at.0 d
+    number_spans r =
+        let x : Stepped s c.at.0 c.count.0 d = stepped value_solid d h (a.reading 0 0) e in
+        let small = r.small in
+        let few = r.few in
+        let within = r.within in
+        let end = x.within in
+        let grown = x.grown in
+        let rows = x.rows in
+        record { grown = omega arith; few = omega arith; start = omega arith; body = omega arith; end = omega arith }

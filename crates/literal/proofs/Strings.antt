@@ -2,7 +2,7 @@
 use mathlib.Core.Bool.{Bool, true, false}
 use mathlib.Core.List.{List, [], ◌∷◌}
 use mathlib.Core.Path.{◌≡◌, refl, sym, subst}
-use Prim.Native.Nat.{ℕ, ◌+◌, ◌*◌, ◌≤◌}
+use Prim.Native.Nat.{ℕ, ◌+◌, ◌≤◌}
 use native.Mathlib.Omega.{arith}
 use lib.Dec.{T}
 use lib.ListN.{length, drop}
@@ -12,10 +12,7 @@ use Rattle.reading.specs.Byte.{is, begins}
 use Rattle.reading.specs.Grammar.{one, run1, Parser, empty, ◌▸◌, many0, leaf, always}
 use Rattle.reading.specs.Kind.{charᵏ, pieceᵏ, pathᵏ, stringᵏ}
 use Rattle.reading.specs.Rules.{byte, char, located', trivia, identifier_path, piece, interpolation, quoted, interpolated_string, quoted_string, all_rules}
-use Rattle.reading.specs.Table.{row_width}
 use Rattle.trivia.specs.Class.{among}
-use Rattle.table.specs.Words.{pushed, row_record}
-use Rattle.cursor.proofs.Agree.{got_miss}
 use Rattle.cursor.proofs.Laws.{moved, Stepped, stepped, reading_to, skips_empty, seq_out, seq_got, or_miss, or_first, over_out, over_no, over_got}
 use Rattle.cursor.proofs.Loops.{Repeatable}
 use Rattle.cursor.proofs.Lows.{low_first, low_node}
@@ -25,6 +22,7 @@ use Rattle.cursor.specs.declared.Cursor.{Cursor}
 use Rattle.cursor.specs.Read.{Read}
 use Rattle.cursor.specs.declared.Skip.{Skip}
 use Rattle.lexis.specs.Behind.{Behind, Placed}
+use Rattle.lexis.specs.Around.{Spans, Finished}
 use Rattle.lexis.specs.Finds.{read_of}
 use Rattle.lexis.proofs.Ends.{byte_at, byte_no}
 use Rattle.lexis.proofs.Solids.{char_solid}
@@ -151,12 +149,6 @@ char_quiet : T (quiet (char "\""))
 unfolding all_rules
 char_quiet = tt
 
--- where the items end, after `base` rows before the string
-pub record Inside (s : List ℕ) (base : ℕ) (n : Cursor) : Type 0 where
-  pub grown : base ≤ n.count.0
-  pub within : n.at.0 ≤ length s
-  pub few : n.count.0 ≤ 4 * n.at.0 + 4
-
 module _ (b : Bool) {s : List ℕ} {c : Cursor} {k : Skip} (x : Skips trivia s c.at.0 c.met k) {t t₁ : List ℕ} {r₁ : Read}
     (a : Behind charᵏ (always 34) (leaf (one (is 34))) s c k t t₁ r₁) where
   quote : (l lim : ℕ) → Reading (char "\"") s l lim c.at.0 c.met c.count.0 t t₁ r₁
@@ -180,14 +172,17 @@ module _ (b : Bool) {s : List ℕ} {c : Cursor} {k : Skip} (x : Skips trivia s c
           string_is b (record { reading = λ l lim. over_no stringᵏ 0 (rest b) (quote l lim) char_quiet d e (seq_out (g.reading l lim) (byte "\"") z) z })
 
       module _ (n : Cursor) (p : r₂ ≡ Ok n) where
-        pub string_inside : Ready 4 s c → Inside s c.count.0 n
-        string_inside h =
+        -- the row around it fits
+        pub string_spans : Ready 4 s c → Spans c k.at.0 (cursor (n.at.0 + 1) n.count.0 n.met)
+        string_spans h =
             let y = quote_step h.within in
             let m = moved (many0 (item_of b)) (item_repeats b).quieted (items_slim b) n y.within (g.reading 0 0) p in
             record {
               grown = omega (arith, y.grown, m.grown);
-              within = m.within;
-              few = omega (arith, h.few, y.rows, m.rows);
+              few = omega (arith, h.small, h.few, y.rows, m.rows, m.within);
+              start = omega (arith, h.small, h.within);
+              body = omega (arith, h.small, x.within);
+              end = omega (arith, h.small, m.within);
             }
 
         -- no closing quote, or one
@@ -199,16 +194,16 @@ module _ (b : Bool) {s : List ℕ} {c : Cursor} {k : Skip} (x : Skips trivia s c
                   (seq_got (g.reading l lim) (byte "\"") (item_repeats b).quieted n p ((byte_no 34 s n.at.0 z).reading l lim n.met n.count.0 t₂)) refl;
             })
 
-        pub string_got : begins (34 ∷ []) (drop n.at.0 s) ≡ true → (y : ℕ) → y + c.count.0 ≡ n.count.0 + 1 → {t' : List ℕ}
-            → t' ≡ pushed row_width t₂ n.count.0 (row_record stringᵏ y c.at.0 k.at.0 (n.at.0 + 1) 0)
-            → Leafs (string_of b) s c t t' (Ok (cursor (n.at.0 + 1) (n.count.0 + 1) n.met))
+        pub string_got : begins (34 ∷ []) (drop n.at.0 s) ≡ true → {t' : List ℕ} {z : Cursor}
+            → Finished stringᵏ 0 c k.at.0 (cursor (n.at.0 + 1) n.count.0 n.met) t₂ t' z → Leafs (string_of b) s c t t' (Ok z)
         unfolding read_of
-        string_got z y w q =
-            string_is b (record {
-              reading = λ l lim. reading_to q
+        string_got i {t'} f =
+            subst (λ (z : Cursor). Leafs (string_of b) s c t t' (Ok z)) (sym f.is)
+            (string_is b (record {
+              reading = λ l lim. reading_to f.table
                   (over_got stringᵏ 0 (rest b) (quote l lim) char_quiet d e
                   (seq_got (g.reading l lim) (byte "\"") (item_repeats b).quieted n p
-                  ((byte_at 34 s n.at.0 z (record { 0 = n.at.0 + 1 }) refl).reading l lim n.met n.count.0 t₂))
-                  (rest_quiet b) (cursor (n.at.0 + 1) n.count.0 n.met) refl y k.at.0 w
+                  ((byte_at 34 s n.at.0 i (record { 0 = n.at.0 + 1 }) refl).reading l lim n.met n.count.0 t₂))
+                  (rest_quiet b) (cursor (n.at.0 + 1) n.count.0 n.met) refl f.size k.at.0 f.counts
                   (low_first (low_node charᵏ x l (always 34) (leaf (one (is 34))))));
-            })
+            }))

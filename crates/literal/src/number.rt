@@ -1,5 +1,5 @@
 // Numbers: `$` and hexadecimal digits, `%` and binary digits, decimal digits, `true`, `false`.
-ghost use Rattle.std.specs.Prelude.{true, [], ◌∷◌, ◌≡◌, ◌^◌, ◌≤◌, ◌<◌, length, drop};
+ghost use Rattle.std.specs.Prelude.{true, [], ◌∷◌, ◌≡◌, ◌≤◌, length, drop};
 ghost use Rattle.reading.specs.Byte.{begins};
 ghost use Rattle.reading.specs.Rules.{trivia, number};
 ghost use Rattle.cursor.specs.Agree.{Ready, Leafs};
@@ -7,20 +7,38 @@ ghost use Rattle.cursor.specs.Text.{Skips};
 ghost use Rattle.lexis.specs.Finds.{Finds};
 ghost use Rattle.trivia.specs.Class.{bit_of};
 ghost use Rattle.literal.specs.Parts.{radix, numeral, decimals, value};
+ghost use Rattle.literal.specs.Bases.{base_number};
 
 use cursor::{Cursor, Read, Skip, Stop};
 use lexis::mark;
-use table::{Kind, Pos, RowIndex};
+use table::{Kind, Pos};
 use trivia::class::Class;
 
+// What a number is written in. Its number is the detail of the row of the type.
+#[derive(Clone, Copy)]
+enum Base {
+    Hexadecimal = 1,
+    Decimal = 2,
+    Binary = 3,
+}
+
+impl Base {
+    fn number(self) -> usize
+        ensures { result ≡ base_number self }
+    {
+        self as usize
+    }
+}
+
 // The mark `$` or `%`, which stands behind the trivia, and digits behind trivia of their own.
-fn radix(s: &[u8], c: Cursor, k: Skip, mark: u8, ty: usize, class: Class, rows: &mut [u32]) -> Read
+fn radix(s: &[u8], c: Cursor, k: Skip, mark: u8, base: Base, class: Class, rows: &mut [u32]) -> Read
     requires ready { Ready 4 s.now c }
     requires skips { Skips trivia s.now c.at.0 c.met k }
-    requires s_value { (begins (mark ∷ []) (drop k.at.0 s.now) ≡ true) × (ty < 2 ^ 32) }
-    ensures { Leafs (radix mark ty (bit_of class)) s.now c rows.old rows.new result }
+    requires marked { begins (mark ∷ []) (drop k.at.0 s.now) ≡ true }
+    ensures { Leafs (radix mark (base_number base) (bit_of class)) s.now c rows.old rows.new result }
 {
-    let d = mark::row(c, k, Pos(k.at.0 + 1), Kind::NumberType, ty, rows)?;
+    let high = Pos(k.at.0 + 1);
+    let d = mark::row(c, k, high, Kind::NumberType, base.number(), rows)?;
     let j = trivia::trivia(s, d.at, d.met);
     mark::run(s, d, j, class, true, Kind::NumberText, rows)
 }
@@ -57,7 +75,14 @@ fn decimal(s: &[u8], c: Cursor, k: Skip, rows: &mut [u32]) -> Read
         at: c.at,
         met: c.met,
     };
-    let d = mark::row(c, start, c.at, Kind::NumberType, 2, rows)?;
+    let d = mark::row(
+        c,
+        start,
+        c.at,
+        Kind::NumberType,
+        Base::Decimal.number(),
+        rows,
+    )?;
     mark::row(d, k, high, Kind::NumberText, 0, rows)
 }
 
@@ -68,11 +93,11 @@ fn value(s: &[u8], c: Cursor, k: Skip, rows: &mut [u32]) -> Read
     ensures { Leafs value s.now c rows.old rows.new result }
 {
     if trivia::byte_is(s, k.at, b'$') {
-        return radix(s, c, k, b'$', 1, Class::HexDigit, rows);
+        return radix(s, c, k, b'$', Base::Hexadecimal, Class::HexDigit, rows);
     }
     let d = Cursor { met: k.met, ..c };
     if trivia::byte_is(s, k.at, b'%') {
-        return radix(s, d, k, b'%', 3, Class::BinaryDigit, rows);
+        return radix(s, d, k, b'%', Base::Binary, Class::BinaryDigit, rows);
     }
     decimal(s, d, k, rows)
 }
@@ -84,19 +109,5 @@ pub fn number(s: &[u8], c: Cursor, k: Skip, rows: &mut [u32]) -> Read
     ensures { Leafs number s.now c rows.old rows.new result }
 {
     let d = value(s, c, k, rows)?;
-    let n = d.count.0;
-    table::push_row(
-        rows,
-        d.count,
-        Kind::Number,
-        n + 1 - c.count.0,
-        c.at,
-        c.at,
-        d.at,
-        0,
-    );
-    Ok(Cursor {
-        count: RowIndex(n + 1),
-        ..d
-    })
+    Ok(mark::around(c, c.at, d, Kind::Number, 0, rows))
 }

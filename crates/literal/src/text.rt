@@ -7,7 +7,7 @@ ghost use Rattle.literal.specs.Parts.{item_of, string_of};
 
 use cursor::{Cursor, Read, Skip, Stop};
 use lexis::{identifier, mark};
-use table::{Kind, Pos, RowIndex};
+use table::{Kind, Pos};
 use trivia::class::Class;
 
 // A path in braces: only the path has a row.
@@ -79,21 +79,9 @@ pub fn string(s: &[u8], c: Cursor, k: Skip, interpolated: bool, rows: &mut [u32]
     if !trivia::byte_is(s, e.at, b'"') {
         return Err(Stop::Miss(e.met));
     }
-    let n = e.count.0;
-    let high = Pos(e.at.0 + 1);
-    table::push_row(
-        rows,
-        RowIndex(n),
-        Kind::String,
-        n + 1 - c.count.0,
-        c.at,
-        k.at,
-        high,
-        0,
-    );
-    Ok(Cursor {
-        at: high,
-        count: RowIndex(n + 1),
-        met: e.met,
-    })
+    let end = Cursor {
+        at: Pos(e.at.0 + 1),
+        ..e
+    };
+    Ok(mark::around(c, k.at, end, Kind::String, 0, rows))
 }

@@ -1,5 +1,5 @@
 use mathlib.Core.Path.{refl}
-use Rattle.std.proofs.lemmas.Result.{err_from_is_err_and}
+use Rattle.literal.proofs.Exits.{passed}
 use Rattle.reading.specs.Rules.{expression}
 use Rattle.cursor.proofs.Laws.{reads_leaf}
 use Rattle.head.proofs.Steps.{seq_stop, seq_on}
@@ -11,8 +11,7 @@ use Rattle.head.proofs.definition.assigned.Goals as goal
 pub returns-in_err-d : goal.returns-in_err-d
 unfolding assigned char_of
 returns-in_err-d c =
-    let p = err_from_is_err_and c.from_residual.result c.from_residual.ensures.1 in
-    rw (p.1, p.2) (seq_stop (reads_leaf _ c.in_err-d.ensures) expression refl)
+    rw (passed c.from_residual.ensures.1) (seq_stop (reads_leaf _ c.in_err-d.ensures) expression refl)
 
 pub expression-requires : goal.expression-requires
 expression-requires c =

@@ -1,5 +1,5 @@
 use mathlib.Core.Path.{refl}
-use Rattle.std.proofs.lemmas.Result.{err_from_is_err_and}
+use Rattle.literal.proofs.Exits.{passed}
 use Rattle.reading.specs.Grammar.{empty}
 use Rattle.reading.specs.Rules.{multiline_trivia, colon, mname}
 use Rattle.cursor.proofs.Laws.{reads_leaf, skips_empty}
@@ -14,8 +14,7 @@ use Rattle.head.proofs.definition.label_head.Goals as goal
 pub returns-in_err-d : goal.returns-in_err-d
 unfolding label_head mname
 returns-in_err-d c =
-    let p = err_from_is_err_and c.from_residual.result c.from_residual.ensures.1 in
-    rw (p.1, p.2) (record {
+    rw (passed c.from_residual.ensures.1) (record {
       reads = λ left. seq_stop (reads_leaf left (c.in_err-d.ensures.leafs multiline_trivia
           c.requires.skips)) colon refl;
     })

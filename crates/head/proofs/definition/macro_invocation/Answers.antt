@@ -1,5 +1,5 @@
 use mathlib.Core.Path.{refl}
-use Rattle.std.proofs.lemmas.Result.{err_from_is_err_and}
+use Rattle.literal.proofs.Exits.{passed}
 use Rattle.reading.specs.Rules.{multiline_trivia, macro_invocation, mname, call_parens}
 use Rattle.cursor.proofs.Laws.{reads_leaf}
 use Rattle.head.proofs.Wholes.{over_stop}
@@ -12,8 +12,7 @@ use Rattle.head.proofs.definition.macro_invocation.Goals as goal
 pub returns-in_err-d : goal.returns-in_err-d
 unfolding macro_invocation mname
 returns-in_err-d c =
-    let p = err_from_is_err_and c.from_residual.result c.from_residual.ensures.1 in
-    rw (p.1, p.2) (over_stop macro_invocationᵏ call_parens (reads_leaf _ (c.in_err-d.ensures.leafs multiline_trivia c.requires.skips)) refl)
+    rw (passed c.from_residual.ensures.1) (over_stop macro_invocationᵏ call_parens (reads_leaf _ (c.in_err-d.ensures.leafs multiline_trivia c.requires.skips)) refl)
 
 pub call_parens-g-requires : goal.call_parens-g-requires
 unfolding mname

@@ -1,5 +1,5 @@
 use mathlib.Core.Path.{refl}
-use Rattle.std.proofs.lemmas.Result.{err_from_is_err_and}
+use Rattle.literal.proofs.Exits.{passed}
 use Rattle.cursor.proofs.Laws.{reads_leaf}
 use Rattle.head.proofs.Steps.{seq_stop, seq_on, reads_optional}
 use Rattle.head.proofs.Bounds.{paid_up, next}
@@ -10,8 +10,7 @@ use Rattle.head.proofs.definition.parameters.Goals as goal
 pub returns-in_err-d : goal.returns-in_err-d
 unfolding parameters char_of
 returns-in_err-d c =
-    let p = err_from_is_err_and c.from_residual.result c.from_residual.ensures.1 in
-    rw (p.1, p.2) (record { reads = λ left. seq_stop (reads_leaf left c.in_err-d.ensures) _ refl })
+    rw (passed c.from_residual.ensures.1) (record { reads = λ left. seq_stop (reads_leaf left c.in_err-d.ensures) _ refl })
 
 pub identifier_arg_list-g-requires : goal.identifier_arg_list-g-requires
 identifier_arg_list-g-requires c =
@@ -20,8 +19,7 @@ identifier_arg_list-g-requires c =
 pub returns-in_err-e : goal.returns-in_err-e
 unfolding parameters char_of
 returns-in_err-e c =
-    let p = err_from_is_err_and c.from_residual-in_err-e.result c.from_residual-in_err-e.ensures.1 in
-    rw (p.1, p.2) (record {
+    rw (passed c.from_residual-in_err-e.ensures.1) (record {
       reads = λ left.
           seq_on (reads_leaf left c.in_ok-d.ensures)
           (char_solid 40).quieted refl

@@ -1,5 +1,5 @@
 use mathlib.Core.Path.{refl}
-use Rattle.std.proofs.lemmas.Result.{err_from_is_err_and}
+use Rattle.literal.proofs.Exits.{passed}
 use Rattle.reading.specs.Rules.{multiline_trivia, pc_definition}
 use Rattle.cursor.proofs.Laws.{reads_leaf}
 use Rattle.head.proofs.Wholes.{over_stop}
@@ -13,8 +13,7 @@ use Rattle.head.proofs.definition.pc_definition.Goals as goal
 pub returns-in_err-d : goal.returns-in_err-d
 unfolding pc_definition assigned
 returns-in_err-d c =
-    let p = err_from_is_err_and c.from_residual.result c.from_residual.ensures.1 in
-    rw (p.1, p.2) (over_stop program_counter_definitionᵏ assigned (reads_leaf _ (c.in_err-d.ensures.leafs multiline_trivia c.requires.skips)) refl)
+    rw (passed c.from_residual.ensures.1) (over_stop program_counter_definitionᵏ assigned (reads_leaf _ (c.in_err-d.ensures.leafs multiline_trivia c.requires.skips)) refl)
 
 pub assigned-g-requires : goal.assigned-g-requires
 assigned-g-requires c =

@@ -1,5 +1,5 @@
 use mathlib.Core.Path.{refl}
-use Rattle.std.proofs.lemmas.Result.{err_from_is_err_and}
+use Rattle.literal.proofs.Exits.{passed}
 use Rattle.reading.specs.Rules.{multiline_trivia}
 use Rattle.cursor.proofs.Laws.{reads_leaf}
 use Rattle.head.proofs.Wholes.{over_stop}
@@ -13,8 +13,7 @@ use Rattle.head.proofs.definition.varconst.Goals as goal
 pub returns-in_err-d : goal.returns-in_err-d
 unfolding varconst word_of
 returns-in_err-d c =
-    let p = err_from_is_err_and c.from_residual.result c.from_residual.ensures.1 in
-    rw (p.1, p.2) (over_stop variable_definitionᵏ named (reads_leaf _ (c.in_err-d.ensures.leafs multiline_trivia c.requires.skips)) refl)
+    rw (passed c.from_residual.ensures.1) (over_stop variable_definitionᵏ named (reads_leaf _ (c.in_err-d.ensures.leafs multiline_trivia c.requires.skips)) refl)
 
 pub named-g-requires : goal.named-g-requires
 unfolding word_of
@@ -24,7 +23,7 @@ named-g-requires c =
       c.requires.skips,
     ) variable_typeᵏ
     c.args.detail _
-    c.requires.in_bounds.0) (reads_leaf 0
+    c.requires.nonempty) (reads_leaf 0
     (c.in_ok-d.ensures.leafs multiline_trivia
     c.requires.skips)) refl
 
@@ -36,7 +35,7 @@ whole-requires c = rest_closable (word_begins (
 )
     variable_typeᵏ
     c.args.detail _
-    c.requires.in_bounds.0)
+    c.requires.nonempty)
     (reads_leaf _ (c.in_ok-d.ensures.leafs multiline_trivia
     c.requires.skips))
     refl named_owing (lit≤ tt) c.named-g.ensures
@@ -51,7 +50,7 @@ returns c =
     variable_typeᵏ
     c.args.detail
     _
-    c.requires.in_bounds.0)
+    c.requires.nonempty)
     (reads_leaf _ (c.in_ok-d.ensures.leafs
     multiline_trivia
     c.requires.skips))

@@ -1,5 +1,5 @@
 use mathlib.Core.Path.{refl}
-use Rattle.std.proofs.lemmas.Result.{err_from_is_err_and}
+use Rattle.literal.proofs.Exits.{passed}
 use mathlib.Core.Bool.{true}
 use Rattle.reading.specs.Rules.{interpolated_string, file}
 use Rattle.cursor.proofs.Laws.{reads_leaf}
@@ -14,8 +14,7 @@ use Rattle.head.proofs.directive.file.Goals as goal
 pub returns-in_err-d : goal.returns-in_err-d
 unfolding file directive_of word_of
 returns-in_err-d c =
-    let p = err_from_is_err_and c.from_residual.result c.from_residual.ensures.1 in
-    rw (p.1, p.2) (record { reads = λ left. over_stop fileᵏ interpolated_string (c.in_err-d.ensures.reads left) refl })
+    rw (passed c.from_residual.ensures.1) (record { reads = λ left. over_stop fileᵏ interpolated_string (c.in_err-d.ensures.reads left) refl })
 
 pub string-g-requires : goal.string-g-requires
 unfolding directive_of

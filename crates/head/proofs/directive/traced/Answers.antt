@@ -1,5 +1,5 @@
 use mathlib.Core.Path.{refl}
-use Rattle.std.proofs.lemmas.Result.{err_from_is_err_and}
+use Rattle.literal.proofs.Exits.{passed}
 use Rattle.cursor.proofs.Laws.{reads_leaf}
 use Rattle.head.proofs.Steps.{seq_stop, seq_on, reads_optional}
 use Rattle.head.proofs.Bounds.{paid_up, next, past}
@@ -10,11 +10,10 @@ use Rattle.head.proofs.directive.traced.Goals as goal
 pub returns-in_err-d : goal.returns-in_err-d
 unfolding traced char_of
 returns-in_err-d c =
-    let p = err_from_is_err_and c.from_residual.result c.from_residual.ensures.1 in
-    rw (p.1, p.2) (seq_stop (reads_leaf _ c.in_err-d.ensures) _ refl)
+    rw (passed c.from_residual.ensures.1) (seq_stop (reads_leaf _ c.in_err-d.ensures) _ refl)
 
-pub expression_arg_list-g-requires-clause-le_at : goal.expression_arg_list-g-requires-clause-le_at
-expression_arg_list-g-requires-clause-le_at c =
+pub expression_arg_list-g-requires-clause-behind_byte : goal.expression_arg_list-g-requires-clause-behind_byte
+expression_arg_list-g-requires-clause-behind_byte c =
     let a = reads_leaf 0 c.in_ok-d.ensures in
     past (char_solid 40) c.requires a refl
 
@@ -26,8 +25,7 @@ expression_arg_list-g-requires-clause-ready c =
 pub returns-in_err-e : goal.returns-in_err-e
 unfolding traced char_of
 returns-in_err-e c =
-    let p = err_from_is_err_and c.from_residual-in_err-e.result c.from_residual-in_err-e.ensures.1 in
-    rw (p.1, p.2) (seq_on (reads_leaf _ c.in_ok-d.ensures) (char_solid 40
+    rw (passed c.from_residual-in_err-e.ensures.1) (seq_on (reads_leaf _ c.in_ok-d.ensures) (char_solid 40
     ).quieted refl
     (seq_stop (reads_optional c.expression_arg_list-g.ensures c.in_err-e.ensures) _ refl))
 

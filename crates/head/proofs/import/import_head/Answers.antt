@@ -1,5 +1,5 @@
 use mathlib.Core.Path.{refl}
-use Rattle.std.proofs.lemmas.Result.{err_from_is_err_and}
+use Rattle.literal.proofs.Exits.{passed}
 use Rattle.head.proofs.Steps.{seq_stop, seq_on}
 use Rattle.head.proofs.Bounds.{paid_up, next}
 use Rattle.head.specs.Heads.{word_of, directive_of, import_names, import_head}
@@ -11,8 +11,7 @@ use Rattle.head.proofs.import.import_head.Goals as goal
 pub returns-in_err-d : goal.returns-in_err-d
 unfolding import_head directive_of word_of
 returns-in_err-d c =
-    let p = err_from_is_err_and c.from_residual.result c.from_residual.ensures.1 in
-    rw (p.1, p.2) (record { reads = λ left. seq_stop (c.in_err-d.ensures.reads left) import_names refl })
+    rw (passed c.from_residual.ensures.1) (record { reads = λ left. seq_stop (c.in_err-d.ensures.reads left) import_names refl })
 
 pub import_names-requires : goal.import_names-requires
 unfolding directive_of

@@ -1,5 +1,5 @@
 use mathlib.Core.Path.{refl}
-use Rattle.std.proofs.lemmas.Result.{err_from_is_err_and}
+use Rattle.literal.proofs.Exits.{passed}
 use Rattle.reading.specs.Rules.{multiline_trivia}
 use Rattle.cursor.proofs.Laws.{reads_leaf}
 use Rattle.lexis.proofs.Marks.{placed}
@@ -13,8 +13,7 @@ use Rattle.head.proofs.import.import_names.Goals as goal
 pub returns-in_err-d : goal.returns-in_err-d
 unfolding import_names
 returns-in_err-d c =
-    let p = err_from_is_err_and c.from_residual.result c.from_residual.ensures.1 in
-    rw (p.1, p.2) (record { reads = λ left. seq_stop (c.in_err-d.ensures.reads left) _ refl })
+    rw (passed c.from_residual.ensures.1) (record { reads = λ left. seq_stop (c.in_err-d.ensures.reads left) _ refl })
 
 pub multiline_trivia-k-requires : goal.multiline_trivia-k-requires
 multiline_trivia-k-requires c =

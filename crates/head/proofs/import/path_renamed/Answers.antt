@@ -1,5 +1,5 @@
 use mathlib.Core.Path.{refl}
-use Rattle.std.proofs.lemmas.Result.{err_from_is_err_and}
+use Rattle.literal.proofs.Exits.{passed}
 use Rattle.reading.specs.Rules.{as'}
 use Rattle.cursor.proofs.Laws.{reads_leaf}
 use Rattle.lexis.proofs.Solids.{path_solid}
@@ -9,8 +9,7 @@ use Rattle.head.proofs.import.path_renamed.Goals as goal
 
 pub returns-in_err-d : goal.returns-in_err-d
 returns-in_err-d c =
-    let p = err_from_is_err_and c.from_residual.result c.from_residual.ensures.1 in
-    rw (p.1, p.2) (record { reads = λ left. seq_stop (reads_leaf left c.in_err-d.ensures) as' refl })
+    rw (passed c.from_residual.ensures.1) (record { reads = λ left. seq_stop (reads_leaf left c.in_err-d.ensures) as' refl })
 
 pub renamed-requires : goal.renamed-requires
 renamed-requires c =

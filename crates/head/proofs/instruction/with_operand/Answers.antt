@@ -1,5 +1,5 @@
 use mathlib.Core.Path.{refl}
-use Rattle.std.proofs.lemmas.Result.{err_from_is_err_and}
+use Rattle.literal.proofs.Exits.{passed}
 use mathlib.Core.Bool.{false}
 use Rattle.reading.specs.Rules.{opt, multiline_trivia, operand}
 use Rattle.cursor.proofs.Laws.{reads_leaf}
@@ -15,8 +15,7 @@ use Rattle.head.proofs.instruction.with_operand.Goals as goal
 pub returns-in_err-d : goal.returns-in_err-d
 unfolding with_operand
 returns-in_err-d c =
-    let p = err_from_is_err_and c.from_residual.result c.from_residual.ensures.1 in
-    rw (p.1, p.2) (over_stop instructionᵏ (opt operand) (reads_leaf _ (c.in_err-d.ensures.leafs multiline_trivia c.requires.skips)) refl)
+    rw (passed c.from_residual.ensures.1) (over_stop instructionᵏ (opt operand) (reads_leaf _ (c.in_err-d.ensures.leafs multiline_trivia c.requires.skips)) refl)
 
 pub operand-g-requires : goal.operand-g-requires
 operand-g-requires c =

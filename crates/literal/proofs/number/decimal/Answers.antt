@@ -13,4 +13,4 @@ row-requires-2 c =
     (numeral_in c.requires.skips.within c.in-Some.ensures) (omega arith)
 
 pub returns : goal.returns
-returns c = decimal_leafs c.requires.skips c.in-Some.ensures c.requires.ready.within c.in_ok-d.ensures refl c.row-2.ensures
+returns c = decimal_leafs c.requires.skips c.in-Some.ensures c.requires.ready.within c.number.ensures c.in_ok-d.ensures refl c.row-2.ensures

@@ -1,5 +1,5 @@
 use mathlib.Core.Path.{refl}
-use Rattle.std.proofs.lemmas.Result.{err_from_is_err_and}
+use Rattle.literal.proofs.Exits.{passed}
 use mathlib.Core.Path.{sym, ◌∙◌}
 use Rattle.literal.proofs.Strings.{interpolation_no, interpolation_out, interpolation_open, interpolation_got}
 use Rattle.literal.proofs.text.interpolation.Goals as goal
@@ -9,8 +9,7 @@ returns-then-not-byte_is c = interpolation_no (sym c.byte_is.ensures ∙ c.if-no
 
 pub returns-in_err-d : goal.returns-in_err-d
 returns-in_err-d c =
-    let p = err_from_is_err_and c.from_residual.result c.from_residual.ensures.1 in
-    rw (p.1, p.2) (interpolation_out c.requires (sym c.byte_is.ensures ∙ c.if-not-byte_is.false) c.in_err-d.ensures refl)
+    rw (passed c.from_residual.ensures.1) (interpolation_out c.requires (sym c.byte_is.ensures ∙ c.if-not-byte_is.false) c.in_err-d.ensures refl)
 
 pub returns-then-not-byte_is-2 : goal.returns-then-not-byte_is-2
 returns-then-not-byte_is-2 c =

@@ -1,6 +1,0 @@
-use Rattle.head.proofs.Arguments.{reads_arguments}
-use Rattle.head.proofs.directive.expression_arg_list.Goals as goal
-
-pub returns : goal.returns
-returns c =
-    reads_arguments c.requires.le_at c.requires.ready.within c.arguments.ensures
