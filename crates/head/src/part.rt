@@ -18,8 +18,7 @@ pub fn char(s: &[u8], c: Cursor, b: u8, rows: &mut [u32]) -> Read
     requires { Ready 0 s.now c }
     ensures { Leafs (char_of b) s.now c rows.old rows.new result }
 {
-    let k = trivia::trivia(s, c.at, c.met);
-    mark::char(s, c, k, b, rows)
+    mark::spaced(s, c, b, rows)
 }
 
 #[tactic(auto, unfolding(reading::specs::Rules::name))]

@@ -106,8 +106,7 @@ fn close(s: &[u8], c: Cursor, rows: &mut [u32]) -> Read
     requires { Ready 4 s.now c }
     ensures { Leafs (char ")") s.now c rows.old rows.new result }
 {
-    let k = trivia::trivia(s, c.at, c.met);
-    mark::char(s, c, k, b')', rows)
+    mark::spaced(s, c, b')', rows)
 }
 
 // `)`, where a suffix may stand before it or not.
