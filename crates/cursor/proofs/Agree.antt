@@ -1,4 +1,5 @@
 -- How agreements are put together: one step for each way in which a reader goes on. The summaries are any: nothing here knows a parser.
+use mathlib.Core.Logic.{⊎_elim}
 use mathlib.Core.Path.{◌≡◌, refl, ap, ap₂, sym, subst, ◌∙◌}
 use mathlib.Core.Bool.{Bool, true, false, ◌||◌, or_assoc}
 use mathlib.Core.List.{List, [], ◌∷◌, ◌++◌, append-nil, append_assoc}
@@ -17,7 +18,7 @@ use Rattle.cursor.specs.declared.Cursor.{Cursor}
 use Rattle.cursor.specs.Read.{Read}
 use Rattle.table.proofs.Holds.{holds_push, holds_prefix, holds_place}
 use Rattle.cursor.specs.declared.Stop.TheVariants.{Miss, Deep}
-use Rattle.std.specs.Prelude.{Ok, Err, IsErr, is_err}
+use Rattle.std.specs.Prelude.{Ok, Err, IsOk, IsErr, is_ok, is_err, ◌⊎◌}
 
 -- Answers ------------------------------------------------------------------
 
@@ -55,8 +56,14 @@ got_miss d m h = let z : ◌≡◌ {A = ℕ} 0 1 = cc in omega arith
 pub miss_deep : (m : Bool) → ◌≡◌ {A = Read} (Err (Miss m)) (Err Deep) → ⊥
 miss_deep m h = let z : ◌≡◌ {A = ℕ} 0 1 = cc in omega arith
 
-pub got_err : {r : Read} {d : Cursor} → r ≡ Ok d → IsErr r → ⊥
-got_err q h = let z : ◌≡◌ {A = Bool} false true = sym (ap is_err q) ∙ h in cc
+-- an answer that is known to be none of a kind
+pub not_got : {r : Read} {d : Cursor} → r ≡ Ok d → IsErr r → ⊥
+not_got q h = let z : ◌≡◌ {A = Bool} false true = sym (ap is_err q) ∙ h in cc
+
+pub not_miss : (r : Read) → IsOk r ⊎ (r ≡ Err Deep) → (m : Bool) → r ≡ Err (Miss m) → ⊥
+not_miss r h m e =
+    ⊎_elim (λ (x : IsOk r). let z : ◌≡◌ {A = Bool} true false = sym x ∙ ap is_ok e in let y : ◌≡◌ {A = ℕ} 0 1 = cc in omega arith)
+    (λ (x : r ≡ Err Deep). miss_deep m (sym e ∙ x)) h
 
 module _ (lim : ℕ) (met : Bool) (base : ℕ) where
   -- the answers within the limit
@@ -306,7 +313,7 @@ agrees_out {o} {lim} {met} {base} acc {n} {t} {t₁} {r₁} f e a h = go r₁ re
         (agrees_kept acc (kept acc m e a q) (agrees_err lim met base acc t₁ g.b g.k m g.low g.noted))
 
     go : (r : Read) → r₁ ≡ r → Agrees (thenˢ o f) lim met base acc t t₁ r
-    go (Ok d) q = absurd (got_err q h)
+    go (Ok d) q = absurd (not_got q h)
     go (Err (Miss m)) q = missed m q (lost lim met n o m (sym q ∙ a.answer))
     go (Err Deep) q = agrees_deep lim met base (thenˢ o f) (omega (arith, deep lim met n o (sym q ∙ a.answer), peak_then o f))
 

@@ -22,7 +22,7 @@ use Rattle.cursor.specs.Text.{here, cursor}
 use Rattle.cursor.specs.Agree.{full, Agrees, Reading, Reads, Leafs}
 use Rattle.cursor.specs.declared.Cursor.{Cursor}
 use Rattle.cursor.specs.Read.{Read}
-use Rattle.cursor.proofs.Agree.{found, found_here, lost, agrees_is, agrees_more, agrees_ok, agrees_err, agrees_push, agrees_got, agrees_found, got_err}
+use Rattle.cursor.proofs.Agree.{found, found_here, lost, agrees_is, agrees_more, agrees_ok, agrees_err, agrees_push, agrees_got, agrees_found, not_got}
 use Rattle.cursor.proofs.Agree.{kept, agrees_kept, agrees_out}
 use Rattle.cursor.proofs.Lows.{Low, low_root, root_under}
 use Rattle.cursor.proofs.Laws.{lies, rooted_at, moved, Solid, Stepped, stepped, seq_out, seq_got}
@@ -200,7 +200,7 @@ module _ {m c : Parser} {s : List ℕ} {left at₀ count₀ : ℕ} {met₀ : Boo
     where
       go : (l : ℕ) → Going (list_loop m c) s l (l + left) count₀ at₀ met₀ t₀ [] at count met t → (r : Read) → r₁ ≡ r
           → Agrees (left_of (list_loop m c) s l (drop at₀ s) [] at₀) (l + left) met₀ count₀ [] t₀ t₁ r
-      go l g (Ok d) e = absurd (got_err e h)
+      go l g (Ok d) e = absurd (not_got e h)
       go l g (Err (Miss x)) e =
           let y = lost (l + left) met count (scan (full s) m l (here s at)) x (sym e ∙ (a.reading l).agrees.answer) in
           going_stop g (seq_out (a.reading l) c h) x e

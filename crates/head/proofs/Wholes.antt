@@ -15,7 +15,7 @@ use Rattle.cursor.specs.Text.{here, cursor, Skips}
 use Rattle.cursor.specs.declared.Cursor.{Cursor}
 use Rattle.cursor.specs.declared.Skip.{Skip}
 use Rattle.cursor.specs.Read.{Read}
-use Rattle.cursor.proofs.Agree.{got_err}
+use Rattle.cursor.proofs.Agree.{not_got}
 use Rattle.cursor.proofs.Laws.{node_out, node_got, over_out, over_no, over_got}
 use Rattle.cursor.proofs.Lows.{First}
 use Rattle.lexis.specs.Around.{Finished}
@@ -28,7 +28,7 @@ use Rattle.std.specs.Prelude.{Ok, Err, IsErr, is_err}
 module _ (kind : ℕ) (c : Cursor) (k : Skip) where
   pub whole_none : (f : Read) (t : List ℕ) → IsErr f → Whole kind c k f t t f
   unfolding whole_rows whole_answer
-  whole_none (Ok e) t h = absurd (got_err {d = e} refl h)
+  whole_none (Ok e) t h = absurd (not_got {d = e} refl h)
   whole_none (Err (Miss m)) t h = record { table = refl; answer = refl }
   whole_none (Err Deep) t h = record { table = refl; answer = refl }
 

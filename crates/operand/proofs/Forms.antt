@@ -19,7 +19,7 @@ use Rattle.cursor.specs.Agree.{full, Reads, Leafs}
 use Rattle.cursor.specs.declared.Cursor.{Cursor}
 use Rattle.cursor.specs.declared.Skip.{Skip}
 use Rattle.cursor.specs.Read.{Read}
-use Rattle.cursor.proofs.Agree.{found, found_here, lost, got_miss, miss_deep, got_err}
+use Rattle.cursor.proofs.Agree.{found, found_here, lost, got_miss, miss_deep, not_got}
 use Rattle.cursor.proofs.Lows.{low_first, low_node, first_bracket}
 use Rattle.cursor.proofs.Places.{leaf_no}
 use Rattle.cursor.proofs.Laws.{lies, reads_leaf, leaf_deep, reading_is, seq_out, seq_got, never_miss, flat_no}
@@ -116,7 +116,7 @@ unfolding optional_suffix
 suffix_fits {s} {c} {r₁ = r₁} a h = go r₁ refl
   where
     go : (r : Read) → r₁ ≡ r → ⊥
-    go (Ok d) e = got_err e h
+    go (Ok d) e = not_got e h
     go (Err (Miss m)) e =
         let o = scan (full s) (register_suffix "x" 1 or register_suffix "y" 2) 0 (here s c.at.0) in
         let y = lost 0 c.met c.count.0 (elseˢ o λ _. fits [] (here s c.at.0) false 0) m (sym e ∙ (a.reading 0 0).agrees.answer) in
@@ -166,7 +166,7 @@ module _ {s : List ℕ} {c : Cursor} {k : Skip} (gap : Skips trivia s c.at.0 c.m
   inside_out h = go r₁ refl
     where
       go : (r : Read) → r₁ ≡ r → Reads addressed s c left t t₁ r₁
-      go (Ok d) e = absurd (got_err e h)
+      go (Ok d) e = absurd (not_got e h)
       go (Err (Miss m)) e = inside_misses m e
       go (Err Deep) e = inside_deep e
 

@@ -31,7 +31,7 @@ use Rattle.parser.specs.Answers.{told, end_scope, end_swallow, call, Meets, Clea
 use Rattle.parser.specs.declared.error.ReadError.TheVariants.{TooLong, HighByte, ScopeTooLarge, LevelTooLarge, TooDeep, NoRoomForRows, NoRoomForErrors, NoRoomForRequests}
 use Rattle.parser.proofs.Room.{Kind, rows, errors, requests, number, width, need, lent, words, words_are, Readable, Enough, Before, Short, tight, short?, readable_rooms, lacks_rooms, fits_none}
 use Rattle.std.specs.Prelude.{Ok, Err, IsErr}
-use Rattle.state.proofs.Agree.{got_err}
+use Rattle.state.proofs.Agree.{not_got}
 
 same_outcome : {r r' e e' q q' n n' : ℕ} {f f' : Bool} {t t' u u' v v' : List ℕ} → r ≡ r' → e ≡ e' → q ≡ q' → n ≡ n' → f ≡ f' → t ≡ t' → u ≡ u' → v ≡ v'
     → ◌≡◌ {A = Outcome} (record { answer = answered (record { rows = r; errors = e; requests = q }); scope = n; swallow = f; rows = t; errors = u; requests = v })
@@ -63,7 +63,7 @@ module _ {s : List ℕ} {n : ℕ} {f : Bool} {l : ℕ} {r : Done} {t e q : List 
     where
       pick : (b : Bool) (v : Rows) (p : Input) (w : State) → ltb l w.peak ≡ b → r ≡ deep_or b (Ok (record { at = record { 0 = p.at }; count = record { 0 = 0 + length v }; met = false }, counts w)) → l < w.peak
       pick true v p w i j = ltb-true l w.peak i
-      pick false v p w i j = absurd (got_err j h)
+      pick false v p w i j = absurd (not_got j h)
 
       go : (o : Reply Rows) → Answered o → r ≡ done_of l 0 o → l < (state_of o).peak
       go (ok v p w) a i = pick (ltb l w.peak) v p w refl i

@@ -1,4 +1,5 @@
 -- How agreement over a state is put together: one step for each way in which a reader goes on. The replies are any: nothing here knows a parser.
+use mathlib.Core.Logic.{⊎_elim}
 use mathlib.Core.Path.{◌≡◌, refl, ap, ap₂, sym, subst, ◌∙◌}
 use mathlib.Core.Bool.{Bool, true, false}
 use mathlib.Core.List.{List, [], ◌∷◌, ◌++◌, append-nil, append_assoc}
@@ -17,7 +18,7 @@ use Rattle.state.specs.declared.State.{State as Counts}
 use Rattle.state.specs.Done.{Done}
 use Rattle.state.specs.Acts.{counts, Log, log, Tables, tables, Logged, deep_or, done_of, state_after, rows_read, Acts}
 use Rattle.cursor.specs.declared.Stop.TheVariants.{Miss, Deep}
-use Rattle.std.specs.Prelude.{Ok, Err, IsErr, is_err}
+use Rattle.std.specs.Prelude.{Ok, Err, IsOk, IsErr, is_ok, is_err, ◌⊎◌}
 
 -- Answers ------------------------------------------------------------------
 
@@ -55,8 +56,14 @@ got_miss d x y h = let z : ◌≡◌ {A = ℕ} 0 1 = cc in omega arith
 pub miss_deep : (x : Counts) → ◌≡◌ {A = Done} (Err (Miss x)) (Err Deep) → ⊥
 miss_deep x h = let z : ◌≡◌ {A = ℕ} 0 1 = cc in omega arith
 
-pub got_err : {r : Done} {p : Cursor × Counts} → r ≡ Ok p → IsErr r → ⊥
-got_err q h = let z : ◌≡◌ {A = Bool} false true = sym (ap is_err q) ∙ h in cc
+-- an answer that is known to be none of a kind
+pub not_got : {r : Done} {p : Cursor × Counts} → r ≡ Ok p → IsErr r → ⊥
+not_got q h = let z : ◌≡◌ {A = Bool} false true = sym (ap is_err q) ∙ h in cc
+
+pub not_miss : (r : Done) → IsOk r ⊎ (r ≡ Err Deep) → (x : Counts) → r ≡ Err (Miss x) → ⊥
+not_miss r h x e =
+    ⊎_elim (λ (y : IsOk r). let z : ◌≡◌ {A = Bool} true false = sym y ∙ ap is_ok e in let w : ◌≡◌ {A = ℕ} 0 1 = cc in omega arith)
+    (λ (y : r ≡ Err Deep). miss_deep x (sym e ∙ y)) h
 
 module _ (lim base : ℕ) where
   -- the answers within the limit
@@ -287,7 +294,7 @@ acts_out {o} {lim} {base} acc {b} {n} {T} {T₁} {r₁} f up i a h = go r₁ ref
     missed x g = acts_is (ap (λ o. then o f) g.is) (acts_lost acc g i a (acts_err g.w lim base acc T₁ x g.low g.state))
 
     go : (r : Done) → r₁ ≡ r → Acts (then o f) lim base acc b T T₁ r
-    go (Ok (d, x)) q = absurd (got_err q h)
+    go (Ok (d, x)) q = absurd (not_got q h)
     go (Err (Miss x)) q = missed x (lost lim n o x (sym q ∙ a.answer))
     go (Err Deep) q = acts_deep lim base (then o f) (omega (arith, deep lim n o (sym q ∙ a.answer), peak_then o f up))
 

@@ -1,5 +1,5 @@
 -- A reader that is lent the part of the row table behind the rows so far does there what it would do in the whole table.
-use Rattle.state.proofs.Agree.{got_err}
+use Rattle.state.proofs.Agree.{not_got}
 use mathlib.Core.Path.{◌≡◌, refl, ap, sym, subst, ◌∙◌}
 use mathlib.Core.Bool.{Bool, true, false}
 use mathlib.Core.List.{List, [], ◌++◌, append-nil}
@@ -103,7 +103,7 @@ fit_count h = omega (arith, h.few, h.within, h.small)
 -- Behind rows that have their lines: no answer, or one whose rows get theirs ----
 
 shifted_out : (n : ℕ) (r : Done) → IsErr r → shifted n r ≡ r
-shifted_out n (Ok (d, x)) h = absurd (got_err {p = (d, x)} refl h)
+shifted_out n (Ok (d, x)) h = absurd (not_got {p = (d, x)} refl h)
 shifted_out n (Err (Miss x)) h = refl
 shifted_out n (Err Deep) h = refl
 
@@ -118,7 +118,7 @@ module _ {g : Parser} {s : List ℕ} {at n : ℕ} {st : Counts} {t t₁ e e₁ :
             let y = (b.appends left q).drafted u i in
             record {
               draft = y.draft;
-              lines = λ d x j. absurd (got_err j h);
+              lines = λ d x j. absurd (not_got j h);
               does = subst (λ (z : Done). Does g s (cursor at n false) st left (tables u e q) (tables y.draft e₁ q) z) (shifted_out n r h) y.does;
             };
       }

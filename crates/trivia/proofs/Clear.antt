@@ -1,6 +1,6 @@
 -- Blocks of bytes in which a test fails: no closing mark starts there, or no line ends.
 use mathlib.Core.Path.{◌≡◌, refl, ap, sym, ◌∙◌}
-use mathlib.Core.Bool.{Bool, true, false, not, ◌&&◌, and-false}
+use mathlib.Core.Bool.{Bool, true, false, not, ◌&&◌, ◌||◌, and-false}
 use mathlib.Core.List.{List, [], ◌∷◌}
 use mathlib.Core.Option.{Option, none, some}
 use Prim.Native.Nat.{ℕ, zero, suc, ◌+◌, ◌≤◌, ◌<◌}
@@ -31,6 +31,9 @@ clear_both {f} {a} {m} {z} g h = record { plain = λ i p q. among i p q (ltb i m
 -- a place that does not pass, at the end
 pub clear_more : {f : ℕ → Bool} {a m z : ℕ} → Clear f a m → z ≡ m + 1 → f m ≡ false → Clear f a z
 clear_more {f} {a} {m} {z} g n e = clear_both g (record { plain = λ i h k. ap f (let z : i ≡ m = omega (arith, n, h, k) in z) ∙ e })
+
+pub clear_found : {f : ℕ → Bool} {a m z : ℕ} (x : Bool) → (x ≡ false → Clear f a m) → z ≡ m + 1 → x || f m ≡ false → Clear f a z
+clear_found {f} {a} {m} x g n e = let z = neither x (f m) e in clear_more (g z.0) n z.1
 
 pub clear_to : {f : ℕ → Bool} {a m z : ℕ} → Clear f a m → z ≤ m → Clear f a z
 clear_to g n = record { plain = λ i h k. g.plain i h (omega (arith, n, k)) }
@@ -112,3 +115,9 @@ stars_over s d i (suc n) h g =
 pub unmarked_more : {s : List ℕ} {a i : ℕ} → Unmarked s a i → i + 16 ≤ length s → Clear (either_at 42 42 s) i (i + 16) → Unmarked s a (i + 15)
 unmarked_more {s} {a} {i} u h g =
     record { on = omega (arith, u.on); same = λ d. u.same d ∙ stars_over s d i 15 (omega (arith, h)) (clear_to g (omega arith)) }
+
+pub unmarked_last : (s : List ℕ) {a m : ℕ} → Clear (closes_at s) a m → length s ≤ m + 1 → Clear (closes_at s) a (length s)
+unmarked_last s {a} {m} f n = clear_to (clear_more f refl (ap (λ x. eqb (get_or s m 0) 42 && eqb x 47) (past s (m + 1) n) ∙ and-false (eqb (get_or s m 0) 42))) n
+
+pub unmarked_none : (s : List ℕ) (i : ℕ) → Unmarked s i i
+unmarked_none s i = record { on = omega arith; same = λ d. refl }

@@ -42,3 +42,16 @@ array = refl
 
 pub bit_is : (b n c : ℕ) → b < 256 → n ≡ c → bit (get_or CLASSES b 0) n ≡ member c b
 bit_is b n c h e = ap (λ t. bit (get_or t b 0) n) array ∙ ap (bit (get_or table b 0)) e ∙ rule b c h
+
+-- the bit is what is asked for
+beq_true : (x : Bool) → beq x true ≡ x
+beq_true true = refl
+beq_true false = refl
+
+beq_false : (x : Bool) → beq x false ≡ not x
+beq_false true = refl
+beq_false false = refl
+
+pub among_is : (c b : ℕ) (x inside : Bool) → x ≡ member c b → beq x inside ≡ among c inside b
+among_is c b x true e = beq_true x ∙ e
+among_is c b x false e = beq_false x ∙ ap not e

@@ -29,6 +29,9 @@ use Rattle.share.specs.declared.WordsError.{WordsError}
 use Rattle.vireopatch.specs.Seen.{code_of, given_of, Seen, seen, exported, base_numbered, value_in, seen_value, exported_value, SeenItems, seen_items, exported_items, SeenWalk, seen_walk, exported_walk, SeenShares, seen_shares, exported_shares, SeenWords, seen_words, exported_words}
 use Rattle.vireopatch.specs.Told.{told}
 
+pub same_numbers : {T E : Type 0} (number gives : E → ℕ) (a b : Result T E) → a ≡ b → told number gives a ≡ told number gives b
+same_numbers number gives a b e = ap (told number gives) e
+
 -- Reading a text ------------------------------------------------------------
 
 abbrev read_seen : List ℕ → List ℕ → List ℕ → Read → Reading → Seen
