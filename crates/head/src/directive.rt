@@ -111,7 +111,8 @@ pub fn expression_arg_list(s: &[u8], c: Cursor, left: usize, rows: &mut [u32]) -
 }
 
 // A directive, what `tail` reads behind it, and the row around both.
-// `.file` is told no level to hand on, and definitions and instructions begin with other rows: they take the three steps themselves.
+// `.file` has no level to hand on, and definitions and instructions begin with other rows: they take the three steps themselves.
+// A head without a row of its own is two calls, which one function would not shorten.
 fn worded<F: Fn(&[u8], Cursor, usize, &mut [u32]) -> Read>(
     s: &[u8],
     c: Cursor,
