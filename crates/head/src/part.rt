@@ -92,7 +92,7 @@ pub fn optional(c: Cursor, f: Read) -> Read
 }
 
 // The row around all that was read from `c` on, whose trivia ended at `k`, if its last part was read.
-pub(crate) fn whole(c: Cursor, k: Skip, f: Read, kind: Kind, rows: &mut [u32]) -> Read
+pub fn whole(c: Cursor, k: Skip, f: Read, kind: Kind, rows: &mut [u32]) -> Read
     requires { Closable c k f }
     ensures { Whole (kind_number kind) c k f rows.old rows.new result }
 {

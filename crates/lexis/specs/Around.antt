@@ -8,10 +8,10 @@ use Rattle.cursor.specs.declared.Cursor.{Cursor}
 -- where that may be done: from c to d, with the body from `low` on, all numbers fit a word
 pub record Spans (c : Cursor) (low : ℕ) (d : Cursor) : Type 0 where
   pub grown : c.count.0 ≤ d.count.0
-  pub few : d.count.0 < 2 ^ 20
-  pub start : c.at.0 < 2 ^ 20
-  pub body : low < 2 ^ 20
-  pub end : d.at.0 < 2 ^ 20
+  pub few : d.count.0 + 1 < 2 ^ 32
+  pub start : c.at.0 < 2 ^ 32
+  pub body : low < 2 ^ 32
+  pub end : d.at.0 < 2 ^ 32
 
 -- the row was pushed, and z stands behind it
 pub record Finished (kind detail : ℕ) (c : Cursor) (low : ℕ) (d : Cursor) (t t' : List ℕ) (z : Cursor) : Type 0 where

@@ -21,7 +21,7 @@ pub mod brace;
 pub mod expected;
 pub mod lift;
 pub mod quiet;
-mod row;
+pub mod row;
 pub mod stmt;
 pub mod text;
 

@@ -1,6 +1,6 @@
 -- The table of classes: what its bits say. The array of class.rt is this table: both are computed once.
 use mathlib.Core.Path.{◌≡◌, refl, ap, ◌∙◌, sym}
-use mathlib.Core.Bool.{Bool, true, false}
+use mathlib.Core.Bool.{Bool, beq, true, false, not}
 use mathlib.Core.List.{List, [], ◌∷◌}
 use Prim.Native.Nat.{ℕ, zero, suc, ◌+◌, ◌*◌, ◌/◌, ◌%◌, ◌^◌, ◌<◌}
 use native.Mathlib.Nat.{add-zero, add-suc, suc-add, zero-add, zero-div, div-div-eq-div-mul, pow-succ', le_of_suc-le-suc, not-suc-le-zero}
@@ -8,7 +8,7 @@ use native.Mathlib.Omega.{arith}
 use lib.Dec.{eqb}
 use lib.ListN.{get_or}
 use Rattle.trivia.specs.declared.class.TheConstants.{CLASSES}
-use Rattle.trivia.specs.Class.{classes, member, one_if, mask, bit, masks_from, table}
+use Rattle.trivia.specs.Class.{classes, member, among, one_if, mask, bit, masks_from, table}
 
 low : (x : Bool) (n : ℕ) → bit (one_if x + 2 * n) 0 ≡ x
 low true n = ap (λ m. eqb m 1) (let z : (1 + 2 * n) / 1 % 2 ≡ 1 = omega arith in z)
