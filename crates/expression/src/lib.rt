@@ -129,6 +129,7 @@ fn chain(s: &[u8], c: Cursor, k: Skip, level: Level, left: usize, rows: &mut [u3
 {
     let start = Cursor { at: k.at, ..c };
     let mut d = part(s, c, k, level, left, rows)?;
+    // A turn goes on from where the reader stopped, with the tables lent for writing: an iterator would hide that, and be no shorter.
     loop {
         match next_part(s, d, level, left, rows) {
             Ok(e) => d = mark::around(start, k.at, e, Kind::Binary, 0, rows),
@@ -355,6 +356,7 @@ pub fn arguments(s: &[u8], c: Cursor, left: usize, rows: &mut [u32]) -> Read
     ensures { Reads (arg_list expression_arg) s.now c left rows.old rows.new result }
 {
     let mut next = c;
+    // As in `chain`.
     loop {
         let last = argument(s, next, left, rows)?;
         match mark::spaced(s, last, b',', rows) {

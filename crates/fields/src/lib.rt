@@ -67,6 +67,7 @@ impl<'a> Fields<'a> {
         ensures { (low ≤ result) × (result ≤ length text.old) }
     {
         let mut end = low;
+        // A turn takes two fields, so this is no `for`.
         while !self.is_empty() {
             let times = self.number();
             let byte = self.number();

@@ -53,6 +53,7 @@ pub(crate) fn list<F: Fn(&[u8], Cursor, &mut [u32]) -> Read>(
     ensures { Flat (arg_list (item_of listed)) s.now c rows.old rows.new result }
 {
     let mut next = c;
+    // A turn goes on from where the reader stopped, with the tables lent for writing: an iterator would hide that, and be no shorter.
     loop {
         let last = item(s, next, rows)?;
         match char(s, last, b',', rows) {

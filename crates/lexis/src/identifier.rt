@@ -61,6 +61,7 @@ fn identifiers(s: &[u8], at: Pos) -> Option<Pos>
     ensures { Finds identifiers s.now at.0 result }
 {
     let mut end = identifier(s, at)?;
+    // A turn goes on from where the reader stopped, so this is no `for`.
     while let Some(next) = dotted(s, end) {
         end = next;
     }

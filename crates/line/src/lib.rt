@@ -59,6 +59,7 @@ fn line_feeds(text: &[u8], from: usize, to: usize) -> u32
     let end = text.len().min(to);
     let mut n: u32 = 0;
     let mut i = from;
+    // A turn counts a run, and the last one is shorter.
     while i < end {
         let stop = i + RUN.min(end - i);
         n += u32::from(feeds_near(text, i, stop));
@@ -265,6 +266,7 @@ pub fn number(
     let end = count.min(rows.len() / table::ROW);
     let mut here = reached;
     let mut n = first;
+    // A turn goes on behind the rows that `fill` filled in.
     while n < end {
         let low = rows[n * table::ROW + column::LOW] as usize;
         if here.to < low {

@@ -57,6 +57,7 @@ fn items(s: &[u8], c: Cursor, interpolated: bool, rows: &mut [u32]) -> Read
     ensures { Leafs (many0 (item_of interpolated)) s.now c rows.old rows.new result }
 {
     let mut d = c;
+    // A turn goes on from where the reader stopped, with the tables lent for writing: an iterator would hide that, and be no shorter.
     loop {
         match item(s, d, interpolated, rows) {
             Ok(e) => d = e,

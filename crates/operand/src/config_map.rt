@@ -34,6 +34,7 @@ fn kvps(s: &[u8], c: Cursor, left: usize, rows: &mut [u32]) -> Read
     ensures { Reads (many0 kvp ▸ mchar "}") s.now c left rows.old rows.new result }
 {
     let mut d = c;
+    // A turn goes on from where the reader stopped, with the tables lent for writing: an iterator would hide that, and be no shorter.
     loop {
         match kvp(s, d, left, rows) {
             Ok(e) => d = e,

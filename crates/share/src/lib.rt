@@ -117,7 +117,7 @@ fn first_wrong(words: &[u32], n: usize) -> Option<usize>
     None
 }
 
-// Euclid's.
+// Euclid's, whose turns are not counted.
 fn gcd(a: u64, b: u64) -> u64
     requires { 0 < a }
     ensures { (result ≡ gcd a b) × (0 < result) }

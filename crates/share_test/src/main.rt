@@ -82,6 +82,7 @@ fn expected_of(fields: &mut Fields) -> Expected {
 // Puts the texts that are left of a line into the list; the place behind them. A run is how often a text comes, its trivia and its length.
 fn texts(fields: &mut Fields, words: &mut [u32]) -> usize {
     let mut end: usize = 0;
+    // A turn takes three fields, so this is no `for`.
     while !fields.is_empty() {
         let times = fields.number();
         let trivia = word(fields.number());

@@ -163,6 +163,7 @@ pub fn source_file(
     let mut count = 0;
     let mut state = st;
     let mut here = line::start(s);
+    // A turn goes on from where the reader stopped, with the tables lent for writing: an iterator would hide that, and be no shorter.
     loop {
         match token_behind(s, Pos(at), count, state, left, rows, errors, requests) {
             Ok((d, x)) => {

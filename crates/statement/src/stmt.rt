@@ -98,6 +98,7 @@ fn items(
 {
     let mut next = c;
     let mut state = st;
+    // As in `source_file`.
     loop {
         let start = Cursor { met: false, ..next };
         match item(s, start, state, left, rows, errors, requests) {

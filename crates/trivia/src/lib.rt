@@ -153,6 +153,7 @@ fn skip(s: &[u8], at: Pos, met: bool, lines: bool) -> Skip
 {
     let mut i = at.0;
     let mut m = met;
+    // A turn goes on from the end of a piece, here and in `list_items`, so neither is a `for`.
     loop {
         let Some(item) = trivia_item(s, Pos(i)) else {
             return Skip { at: Pos(i), met: m };

@@ -30,7 +30,7 @@ fn show(out: &mut impl Write, cell: &[u8], w: Option<Word>) -> io::Result<()> {
     }
 }
 
-// Each cell of a text, and the rest of it that is shorter.
+// Each cell of a text, and the rest of it that is shorter, which needs the place behind the last cell.
 fn cells(out: &mut impl Write, s: &[u8], width: usize, list: usize) -> io::Result<()>
     requires { (1 ≤ width) × (width ≤ 9) }
 {
