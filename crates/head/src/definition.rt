@@ -7,14 +7,16 @@ ghost use Rattle.head.specs.Parts.{Flat};
 ghost use Rattle.head.specs.Heads.{assigned, named, varconst, label_head, define_head, parameters, macro_head};
 
 use crate::{directive, part};
+use VariableType::{Constant, Variable};
 use cursor::{Cursor, Read, Skip};
 use lexis::{identifier, mark};
 use table::Kind;
 
-// Types of variables, as the details of their rows.
-const CONSTANT: usize = 1;
-
-const VARIABLE: usize = 2;
+// The numbers are the details of the rows of types.
+enum VariableType {
+    Constant = 1,
+    Variable,
+}
 
 // `=` and an expression.
 fn assigned(s: &[u8], c: Cursor, left: usize, rows: &mut [u32]) -> Read
@@ -60,7 +62,7 @@ pub fn variable_definition(s: &[u8], c: Cursor, k: Skip, left: usize, rows: &mut
     requires skips { Skips multiline_trivia s.now c.at.0 c.met k }
     ensures { Reads variable_definition s.now c left rows.old rows.new result }
 {
-    varconst(s, c, k, b".var", VARIABLE, left, rows)
+    varconst(s, c, k, b".var", Variable as usize, left, rows)
 }
 
 #[tactic(auto, unfolding(reading::specs::Rules::const_definition, crate::specs::Heads::varconst, crate::specs::Heads::word_of, crate::specs::Heads::named, crate::specs::Heads::assigned))]
@@ -69,7 +71,7 @@ pub fn const_definition(s: &[u8], c: Cursor, k: Skip, left: usize, rows: &mut [u
     requires skips { Skips multiline_trivia s.now c.at.0 c.met k }
     ensures { Reads const_definition s.now c left rows.old rows.new result }
 {
-    varconst(s, c, k, b".const", CONSTANT, left, rows)
+    varconst(s, c, k, b".const", Constant as usize, left, rows)
 }
 
 pub fn pc_definition(s: &[u8], c: Cursor, k: Skip, left: usize, rows: &mut [u32]) -> Read

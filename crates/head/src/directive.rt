@@ -10,16 +10,17 @@ ghost use Rattle.head.specs.Tails.{Tail, tail_of};
 ghost use Rattle.head.specs.Heads.{directive_of, directive_expression, wide_size, encoded, asserted, traced};
 
 use crate::part;
+use DataSize::{Byte, Dword, Word};
 use cursor::{Cursor, Read, Skip, Stop};
 use lexis::{mark, operator};
 use table::Kind;
 
-// Sizes of data, as the details of their rows.
-const BYTE: usize = 1;
-
-const WORD: usize = 2;
-
-const DOUBLE_WORD: usize = 3;
+// The numbers are the details of the rows of sizes.
+enum DataSize {
+    Byte = 1,
+    Word,
+    Dword,
+}
 
 // A word in any letter case.
 #[tactic(auto, using(crate::proofs::Steps::flat_leaf), unfolding(crate::specs::Heads::directive_of, crate::specs::Heads::word_of))]
@@ -64,7 +65,7 @@ fn wide_size(s: &[u8], c: Cursor, k: Skip, rows: &mut [u32]) -> Read
     requires skips { Skips multiline_trivia s.now c.at.0 c.met k }
     ensures { Flat wide_size s.now c rows.old rows.new result }
 {
-    let met = match mark::word(s, c, k, b".word", Kind::DataSize, WORD, rows) {
+    let met = match mark::word(s, c, k, b".word", Kind::DataSize, Word as usize, rows) {
         Err(Stop::Miss(met)) => met,
         read => return read,
     };
@@ -78,7 +79,7 @@ fn wide_size(s: &[u8], c: Cursor, k: Skip, rows: &mut [u32]) -> Read
         j,
         b".dword",
         Kind::DataSize,
-        DOUBLE_WORD,
+        Dword as usize,
         rows,
     )
 }
@@ -89,7 +90,7 @@ pub fn data_head(s: &[u8], c: Cursor, k: Skip, rows: &mut [u32]) -> Read
     requires skips { Skips multiline_trivia s.now c.at.0 c.met k }
     ensures { Flat data_size s.now c rows.old rows.new result }
 {
-    let met = match mark::word(s, c, k, b".byte", Kind::DataSize, BYTE, rows) {
+    let met = match mark::word(s, c, k, b".byte", Kind::DataSize, Byte as usize, rows) {
         Err(Stop::Miss(met)) => met,
         read => return read,
     };

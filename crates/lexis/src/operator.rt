@@ -10,6 +10,7 @@ ghost use Rattle.table.specs.Kinds.{kind_number};
 ghost use Rattle.lexis.specs.Suffix.{register, suffix};
 
 use crate::mark;
+use IndexRegister::{X, Y};
 use cursor::{Cursor, Read, Skip, Stop};
 use table::{Kind, Pos};
 use word::Word;
@@ -71,13 +72,19 @@ pub fn mnemonic(s: &[u8], c: Cursor, k: Skip, implied: bool, rows: &mut [u32]) -
     picked(c, k, p, Kind::Mnemonic, rows)
 }
 
+// The numbers are the details of a register's row.
+enum IndexRegister {
+    X = 1,
+    Y,
+}
+
 // `x` or `y`.
 fn register(s: &[u8], c: Cursor, rows: &mut [u32]) -> Read
     requires { Ready 4 s.now c }
     ensures { Leafs register s.now c rows.old rows.new result }
 {
     let k = trivia::trivia(s, c.at, c.met);
-    let met = match mark::word(s, c, k, b"x", Kind::Register, 1, rows) {
+    let met = match mark::word(s, c, k, b"x", Kind::Register, X as usize, rows) {
         Err(Stop::Miss(met)) => met,
         read => return read,
     };
@@ -85,7 +92,15 @@ fn register(s: &[u8], c: Cursor, rows: &mut [u32]) -> Read
         met: met | k.met,
         ..k
     };
-    mark::word(s, Cursor { met, ..c }, past, b"y", Kind::Register, 2, rows)
+    mark::word(
+        s,
+        Cursor { met, ..c },
+        past,
+        b"y",
+        Kind::Register,
+        Y as usize,
+        rows,
+    )
 }
 
 // A comma and a register. The written reading tries the comma twice; it is read once here.

@@ -9,20 +9,20 @@ ghost use Rattle.cursor.specs.Text.{Skips};
 ghost use Rattle.cursor.specs.Agree.{Ready, Reads, Leafs};
 ghost use Rattle.operand.specs.Parts.{addressed, closing_of};
 
+use AddressingMode::{AbsoluteOrZp, Immediate, Indirect, OuterIndirect};
 use cursor::{Cursor, Read, Skip, Stop};
 use lexis::mark;
 use table::Kind;
 
 pub mod config_map;
 
-// Addressing modes, as the details of an operand's row.
-const ABSOLUTE_OR_ZP: usize = 1;
-
-const IMMEDIATE: usize = 2;
-
-const INDIRECT: usize = 4;
-
-const OUTER_INDIRECT: usize = 5;
+// The numbers are the details of an operand's row. 3 is the mode without an operand.
+enum AddressingMode {
+    AbsoluteOrZp = 1,
+    Immediate = 2,
+    Indirect = 4,
+    OuterIndirect = 5,
+}
 
 // An operand. `k` is the trivia before it, which all forms share.
 pub fn operand(s: &[u8], c: Cursor, k: Skip, left: usize, rows: &mut [u32]) -> Read
@@ -51,7 +51,7 @@ fn am_imm(s: &[u8], c: Cursor, k: Skip, left: usize, rows: &mut [u32]) -> Read
     let d = mark::char(s, c, k, b'#', rows)?;
     let j = trivia::trivia(s, d.at, d.met);
     let e = expression::expression(s, d, j, left, rows)?;
-    Ok(mark::around(c, k.at, e, Kind::Operand, IMMEDIATE, rows))
+    Ok(mark::around(c, k.at, e, Kind::Operand, Immediate as usize, rows))
 }
 
 // An expression, and a suffix or none.
@@ -62,7 +62,7 @@ fn am_abs(s: &[u8], c: Cursor, k: Skip, left: usize, rows: &mut [u32]) -> Read
 {
     let d = expression::expression(s, c, k, left, rows)?;
     let e = lexis::operator::optional_suffix(s, d, rows)?;
-    Ok(mark::around(c, k.at, e, Kind::Operand, ABSOLUTE_OR_ZP, rows))
+    Ok(mark::around(c, k.at, e, Kind::Operand, AbsoluteOrZp as usize, rows))
 }
 
 // Where `(` stands: am_ind, am_outer_ind and am_abs. The three begin with the same bytes, and where `)` does not follow the expression,
@@ -77,11 +77,11 @@ fn in_parens(s: &[u8], c: Cursor, k: Skip, left: usize, rows: &mut [u32]) -> Rea
     match closing(s, d, false, rows) {
         Ok(e) => {
             let x = lexis::operator::optional_suffix(s, e, rows)?;
-            Ok(mark::around(c, k.at, x, Kind::Operand, OUTER_INDIRECT, rows))
+            Ok(mark::around(c, k.at, x, Kind::Operand, OuterIndirect as usize, rows))
         }
         Err(Stop::Miss(met)) => {
             let x = closing(s, Cursor { met, ..d }, true, rows)?;
-            Ok(mark::around(c, k.at, x, Kind::Operand, INDIRECT, rows))
+            Ok(mark::around(c, k.at, x, Kind::Operand, Indirect as usize, rows))
         }
         Err(Stop::Deep) => Err(Stop::Deep),
     }

@@ -42,6 +42,13 @@ pub fn begins(s: &[u8], at: Pos, word: &[u8]) -> bool
     true
 }
 
+// The numbers are the details of an encoding's row.
+enum TextEncoding {
+    Ascii = 1,
+    Petscii,
+    Petscreen,
+}
+
 // `ascii` `petscii` `petscreen`
 #[tactic(auto, unfolding(cursor::specs::Word::first_word, crate::specs::Words::picked_of))]
 pub fn encoding(s: &[u8], at: Pos) -> Option<Word>
@@ -51,19 +58,19 @@ pub fn encoding(s: &[u8], at: Pos) -> Option<Word>
     if begins(s, at, b"ascii") {
         return Some(Word {
             length: 5,
-            detail: 1,
+            detail: TextEncoding::Ascii as usize,
         });
     }
     if begins(s, at, b"petscii") {
         return Some(Word {
             length: 7,
-            detail: 2,
+            detail: TextEncoding::Petscii as usize,
         });
     }
     if begins(s, at, b"petscreen") {
         return Some(Word {
             length: 9,
-            detail: 3,
+            detail: TextEncoding::Petscreen as usize,
         });
     }
     None

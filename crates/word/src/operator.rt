@@ -9,6 +9,32 @@ ghost use Rattle.word.specs.Words.{word, picked_of, two_or, term_operators, expr
 use crate::Word;
 use table::Pos;
 
+// The numbers are the details of an operator's row.
+enum BinaryOp {
+    Add = 1,
+    Sub,
+    Mul,
+    Div,
+    Mod,
+    Shl,
+    Shr,
+    Xor,
+    Eq,
+    Ne,
+    Gt,
+    GtEq,
+    Lt,
+    LtEq,
+    And,
+    Or,
+}
+
+// The numbers are the details of a modifier's row.
+enum AddressModifier {
+    HighByte = 1,
+    LowByte,
+}
+
 // The word of one byte.
 fn one(detail: usize) -> Option<Word>
     ensures { result ≡ Some (word 1 detail) }
@@ -34,12 +60,12 @@ pub fn term_operator(s: &[u8], at: Pos) -> Option<Word>
     ensures { result ≡ picked_of (first_word term_operators (drop at.0 s.now)) }
 {
     match *s.get(at.0)? {
-        b'*' => one(3),
-        b'/' => one(4),
-        b'%' => one(5),
-        b'<' => second(s, at, b'<', 6, None),
-        b'>' => second(s, at, b'>', 7, None),
-        b'^' => one(8),
+        b'*' => one(BinaryOp::Mul as usize),
+        b'/' => one(BinaryOp::Div as usize),
+        b'%' => one(BinaryOp::Mod as usize),
+        b'<' => second(s, at, b'<', BinaryOp::Shl as usize, None),
+        b'>' => second(s, at, b'>', BinaryOp::Shr as usize, None),
+        b'^' => one(BinaryOp::Xor as usize),
         _ => None,
     }
 }
@@ -50,14 +76,26 @@ pub fn expression_operator(s: &[u8], at: Pos) -> Option<Word>
     ensures { result ≡ picked_of (first_word expression_operators (drop at.0 s.now)) }
 {
     match *s.get(at.0)? {
-        b'+' => one(1),
-        b'-' => one(2),
-        b'=' => second(s, at, b'=', 9, None),
-        b'!' => second(s, at, b'=', 10, None),
-        b'>' => second(s, at, b'=', 12, one(11)),
-        b'<' => second(s, at, b'=', 14, one(13)),
-        b'&' => second(s, at, b'&', 15, None),
-        b'|' => second(s, at, b'|', 16, None),
+        b'+' => one(BinaryOp::Add as usize),
+        b'-' => one(BinaryOp::Sub as usize),
+        b'=' => second(s, at, b'=', BinaryOp::Eq as usize, None),
+        b'!' => second(s, at, b'=', BinaryOp::Ne as usize, None),
+        b'>' => second(
+            s,
+            at,
+            b'=',
+            BinaryOp::GtEq as usize,
+            one(BinaryOp::Gt as usize),
+        ),
+        b'<' => second(
+            s,
+            at,
+            b'=',
+            BinaryOp::LtEq as usize,
+            one(BinaryOp::Lt as usize),
+        ),
+        b'&' => second(s, at, b'&', BinaryOp::And as usize, None),
+        b'|' => second(s, at, b'|', BinaryOp::Or as usize, None),
         _ => None,
     }
 }
@@ -68,8 +106,8 @@ pub fn modifier(s: &[u8], at: Pos) -> Option<Word>
     ensures { result ≡ picked_of (first_word modifiers (drop at.0 s.now)) }
 {
     match *s.get(at.0)? {
-        b'<' => one(2),
-        b'>' => one(1),
+        b'<' => one(AddressModifier::LowByte as usize),
+        b'>' => one(AddressModifier::HighByte as usize),
         _ => None,
     }
 }
