@@ -157,13 +157,18 @@ fn compare(
         Err(e) => {
             let number = e.number();
             let word = if number <= 4 { FILL } else { 0 };
-            fields.number() == number as usize
-                && fields.number() == e.gives()
+            next_is(fields, number as usize)
+                && next_is(fields, e.gives())
                 && all(rows, word)
                 && all(errors, word)
                 && all(requests, word)
         }
     }
+}
+
+// Whether the next field is there, and is this number.
+fn next_is(fields: &mut Fields, n: usize) -> bool {
+    !fields.is_empty() && fields.number() == n
 }
 
 fn all(words: &[u32], word: u32) -> bool {
@@ -178,12 +183,12 @@ fn answered(
     errors: &[u32],
     requests: &[u32],
 ) -> bool {
-    fields.number() == 0
-        && fields.number() == x.rows
-        && fields.number() == x.errors
-        && fields.number() == x.requests
-        && fields.number() == x.scope
-        && fields.number() == usize::from(x.swallow)
+    next_is(fields, 0)
+        && next_is(fields, x.rows)
+        && next_is(fields, x.errors)
+        && next_is(fields, x.requests)
+        && next_is(fields, x.scope)
+        && next_is(fields, usize::from(x.swallow))
         && words(fields, rows, x.rows, table::ROW)
         && words(fields, errors, x.errors, table::ERROR)
         && words(fields, requests, x.requests, table::REQUEST)
@@ -194,7 +199,10 @@ fn words(fields: &mut Fields, table: &[u32], n: usize, width: usize) -> bool
     requires { 0 < width }
 {
     table.iter().enumerate().all(|(i, &word)| {
-        let expected = if i / width < n { fields.number() } else { 0 };
-        word as usize == expected
+        if i / width < n {
+            next_is(fields, word as usize)
+        } else {
+            word == 0
+        }
     })
 }
