@@ -8,18 +8,16 @@ use std::io::{BufWriter, Write};
 use table::Pos;
 use word::{Word, mnemonic, operator};
 
-// The word of one of the lists, by the list's number.
-fn pick(s: &[u8], at: Pos, list: usize) -> Option<Word>
+fn with_operand(s: &[u8], at: Pos) -> Option<Word>
     requires { at.0 ≤ length s.now }
 {
-    match list {
-        0 => operator::modifier(s, at),
-        1 => operator::term_operator(s, at),
-        2 => operator::expression_operator(s, at),
-        3 => word::encoding(s, at),
-        4 => mnemonic::mnemonic(s, at, false),
-        _ => mnemonic::mnemonic(s, at, true),
-    }
+    mnemonic::mnemonic(s, at, false)
+}
+
+fn implied(s: &[u8], at: Pos) -> Option<Word>
+    requires { at.0 ≤ length s.now }
+{
+    mnemonic::mnemonic(s, at, true)
 }
 
 fn show(out: &mut impl Write, cell: &[u8], w: Option<Word>) -> io::Result<()> {
@@ -30,54 +28,70 @@ fn show(out: &mut impl Write, cell: &[u8], w: Option<Word>) -> io::Result<()> {
     }
 }
 
-// Each cell of a text, and the rest of it that is shorter, which needs the place behind the last cell.
-fn cells(out: &mut impl Write, s: &[u8], width: usize, list: usize) -> io::Result<()>
-    requires { (1 ≤ width) × (width ≤ 9) }
+// What is picked of each cell of a text, and the rest of it that is shorter, which needs the place behind the last cell.
+fn cells<F: Fn(&[u8], Pos) -> Option<Word>>(
+    out: &mut impl Write,
+    s: &[u8],
+    width: usize,
+    pick: F,
+) -> io::Result<()>
+    requires width { (1 ≤ width) × (width ≤ 9) }
+    requires callable { (t : _) (at : _) → at.0 ≤ length t.now → F.pre pick t at }
 {
     let mut i = 0;
     while i + width <= s.len() {
-        show(out, &s[i..i + width], pick(s, Pos(i), list))?;
+        show(out, &s[i..i + width], pick(s, Pos(i)))?;
         i += width;
     }
-    show(out, &s[i..], pick(s, Pos(i), list))
+    show(out, &s[i..], pick(s, Pos(i)))
 }
 
 fn main(rt: HostRuntime) -> io::Result<()> {
     let mut out = BufWriter::new(rt.alloc(), io::writer(&rt))?;
-    cells(&mut out, b"< > <=?x<", 2, 0)?;
-    cells(&mut out, b"* / % <<>>^ < > <>&*+ <", 2, 1)?;
-    cells(&mut out, b"+ - ==!=>=<=> < &&||= ! & | =>x >", 2, 2)?;
+    cells(&mut out, b"< > <=?x<", 2, operator::modifier)?;
+    cells(
+        &mut out,
+        b"* / % <<>>^ < > <>&*+ <",
+        2,
+        operator::term_operator,
+    )?;
+    cells(
+        &mut out,
+        b"+ - ==!=>=<=> < &&||= ! & | =>x >",
+        2,
+        operator::expression_operator,
+    )?;
     cells(
         &mut out,
         b"ascii    petscii  petscreenASCII    PetScii  PETSCREENasci     petscrEnapetscree",
         9,
-        3,
+        word::encoding,
     )?;
     cells(
         &mut out,
         b"adcandaslbccbcsbeqbitbmibnebplbvcbvscmpcpxcpydeceorincjmpjsrldaldxldylsrorarolrorsbcstastxsty",
         3,
-        4,
+        with_operand,
     )?;
     cells(
         &mut out,
         b"ADCANDASLBCCBCSBEQBITBMIBNEBPLBVCBVSCMPCPXCPYDECEORINCJMPJSRLDALDXLDYLSRORAROLRORSBCSTASTXSTY",
         3,
-        4,
+        with_operand,
     )?;
     cells(
         &mut out,
         b"aslbrkclccldcliclvdexdeyinxinylsrnopphaphpplaplprolrorrtirtssecsedseitaxtaytsxtxatxstya",
         3,
-        5,
+        implied,
     )?;
     cells(
         &mut out,
         b"ASLBRKCLCCLDCLICLVDEXDEYINXINYLSRNOPPHAPHPPLAPLPROLRORRTIRTSSECSEDSEITAXTAYTSXTXATXSTYA",
         3,
-        5,
+        implied,
     )?;
-    cells(&mut out, b"lDaBrKnopadd12 a}cad", 3, 4)?;
-    cells(&mut out, b"nOpldaa}cAslxyz[LC", 3, 5)?;
+    cells(&mut out, b"lDaBrKnopadd12 a}cad", 3, with_operand)?;
+    cells(&mut out, b"nOpldaa}cAslxyz[LC", 3, implied)?;
     out.flush()
 }
