@@ -4,3 +4,5 @@ pub mod Lows
 pub mod Laws
 pub mod Rounds
 pub mod Loops
+pub mod Exits
+pub mod Once

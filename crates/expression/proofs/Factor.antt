@@ -7,7 +7,7 @@ use native.Mathlib.Omega.{arith}
 use lib.ListN.{length}
 use Rattle.reading.specs.Kind.{factorᵏ}
 use Rattle.reading.specs.Grammar.{Rows, Input, Rule, Parser, ◌▸◌, ◌or◌, node, under}
-use Rattle.reading.specs.Rules.{opt, trivia, flags, number, fn_call, identifier_value, current_pc, expression_parens, interpolated_string_factor}
+use Rattle.reading.specs.Rules.{opt, trivia, flags}
 use Rattle.reading.specs.Rules.{expression_factor_inner, factor_body, expression_factor}
 use Rattle.reading.specs.Summary.{Summary, fits, fails, more, thenˢ, elseˢ, withˢ, Scan, scan}
 use Rattle.reading.proofs.Summaries.{Yields}
@@ -23,19 +23,12 @@ use Rattle.lexis.specs.Around.{Finished}
 use Rattle.expression.specs.Sign.{signs, signed_factor, Missed, Maybe}
 use Rattle.expression.proofs.Facts.{mark_solid, inner_solid, opt_mark_quiet, signs_quiet}
 use Rattle.expression.proofs.Flags.{Head, Sign, flags_none, flags_signed, inner_head, sign_row}
-use Rattle.expression.proofs.Steps.{row_out, row_got, else_first, else_miss}
+use Rattle.expression.proofs.Steps.{row_out, row_got, else_first, else_miss, missed, missed_on}
+use Rattle.cursor.specs.declared.Stop.{Stop}
 use Rattle.cursor.specs.declared.Stop.TheVariants.{Miss, Deep}
 use Rattle.std.specs.Prelude.{Ok, Err, IsErr, is_err}
 
 -- What was met before ----------------------------------------------------------
-
-or_again : (x y z : Bool) → (x || y) || z ≡ ((x || y) || z) || y
-or_again true y z = refl
-or_again false true z = refl
-or_again false false z = sym (or-false z)
-
-noted_again : (m o b n x : Bool) → n ≡ m || o → x ≡ n || b → x ≡ x || o
-noted_again m o b n x f g = let z : x ≡ (m || o) || b = g ∙ ap (◌|| b) f in z ∙ or_again m o b ∙ ap (◌|| o) (sym z)
 
 noted_twice : (m b x : Bool) → x ≡ m || b → x ≡ x || b
 noted_twice m b x e = e ∙ ap (m ||◌) (sym (or_self b)) ∙ sym (or_assoc m b b) ∙ ap (◌|| b) (sym e)
@@ -43,10 +36,6 @@ noted_twice m b x e = e ∙ ap (m ||◌) (sym (or_self b)) ∙ sym (or_assoc m b
 noted_on : (m b c d x y : Bool) → x ≡ m || c → y ≡ x || d → m ≡ m || b → y ≡ y || b
 noted_on true b c d x y e f g = let z : y ≡ true = f ∙ ap (◌|| d) e in z ∙ sym (ap (◌|| b) z)
 noted_on false b c d x y e f g = sym (ap (y ||◌) (sym g) ∙ or-false y)
-
--- the alternatives behind a number and a call
-abbrev others : Parser
-others = identifier_value or current_pc or expression_parens or interpolated_string_factor
 
 -- Two alternatives behind the same trivia ------------------------------------
 
@@ -94,60 +83,45 @@ factor_split {s} {c} a =
 
 module _ {s : List ℕ} (c : Cursor) {k : Skip} (skips : Skips trivia s c.at.0 c.met k) {left : ℕ} {t t₁ : List ℕ} {r₁ : Read}
     (a : Reads expression_factor_inner s (cursor k.at.0 c.count.0 k.met) left t t₁ r₁) where
-  pub factor_got : (d : Cursor) → r₁ ≡ Ok d → c.count.0 ≤ d.count.0 → {t' : List ℕ} {z : Cursor} → Finished factorᵏ 0 c k.at.0 d t₁ t' z
+  pub factor_got : {d : Cursor} → r₁ ≡ Ok d → {t' : List ℕ} {z : Cursor} → Finished factorᵏ 0 c k.at.0 d t₁ t' z
       → Reads expression_factor s c left t t' (Ok z)
-  factor_got d e h {t'} {z} b =
+  factor_got {d} e {t'} {z} b =
       factor_split (else_first
-      (row_got factorᵏ flags c skips a.reading inner_solid.quieted d e h 0
+      (row_got skips a.reading inner_solid.quieted d e 0
       (λ l v x j p. sym (flags_none v (subst (Yields λ v q. Head v) p (inner_head (full s) l (here s k.at.0))).holds)) b)
-      signed_factor λ x q. got_miss _ x q)
+      λ x q. got_miss _ x q)
 
   pub factor_deep : r₁ ≡ Err Deep → Reads expression_factor s c left t t₁ (Err Deep)
   factor_deep e =
       factor_split (subst (Reads (node factorᵏ flags trivia expression_factor_inner or signed_factor) s c left t t₁) e
-      (else_first (row_out factorᵏ flags c skips a.reading (ap is_err e)) signed_factor λ x q. miss_deep x (sym q ∙ e)))
+      (else_first (row_out skips a.reading (ap is_err e)) λ x q. miss_deep x (sym q ∙ e)))
 
-  module _ (x : Bool) (e : r₁ ≡ Err (Miss x)) where
+  module _ {z : Stop Bool} {x : Bool} (is : r₁ ≡ Err z) (q : z ≡ Miss x) where
+    miss : r₁ ≡ Err (Miss x)
+    miss = is ∙ ap Err q
+
     pub factor_miss : {t' : List ℕ} {r : Read} → Reads signed_factor s (cursor c.at.0 c.count.0 x) left t₁ t' r → Reads expression_factor s c left t t' r
-    factor_miss b = factor_split (else_miss (row_out factorᵏ flags c skips a.reading (ap is_err e)) signed_factor x e b)
+    factor_miss b = factor_split (else_miss (row_out skips a.reading (ap is_err is)) is q b)
 
     -- what the second alternative starts from
-    pub factor_skips : Skips trivia s c.at.0 x (skip k.at.0 x)
-    factor_skips =
-        let y = lost (0 + left) k.met c.count.0 (scan (full s) expression_factor_inner 0 (here s k.at.0)) x (sym e ∙ (a.reading 0).agrees.answer) in
-        record {
-          open? = skips.open?;
-          is = skips.is;
-          noted = noted_again c.met skips.open? y.b k.met x skips.noted y.noted;
-          on = skips.on;
-          within = skips.within;
-        }
+    pub factor_after : (b : Bool) × (x ≡ c.met || b)
+    factor_after = missed_on c.met (skips.open?, skips.noted) (missed a x miss)
 
-    pub factor_missed : Missed s (skip k.at.0 x) left
-    factor_missed =
-        record {
+    pub factor_missed : {k' : Skip} {s' : List ℕ} → s' ≡ s → k' ≡ skip k.at.0 (x || k.met) → Missed s' k' left
+    factor_missed {k'} f g =
+        subst (λ (s : List ℕ). Missed s k' left) (sym f) (subst (λ (k : Skip). Missed s k left) (sym (g ∙ ap (skip k.at.0) same)) record {
           again = λ l n t.
-              let y = lost (l + left) k.met c.count.0 (scan (full s) expression_factor_inner l (here s k.at.0)) x (sym e ∙ (a.reading l).agrees.answer) in
+              let y = lost (l + left) k.met c.count.0 (scan (full s) expression_factor_inner l (here s k.at.0)) x (sym miss ∙ (a.reading l).agrees.answer) in
               record { agrees = agrees_is y.is (agrees_err (l + left) x n [] t y.b y.k x y.low (noted_twice k.met y.b x y.noted)) };
-        }
+        })
+      where
+        twice : (m b : Bool) → (m || b) || m ≡ m || b
+        twice true b = refl
+        twice false true = refl
+        twice false false = refl
 
--- The first alternative -------------------------------------------------------
-
--- a number, a call, or another
-module _ {s : List ℕ} {c : Cursor} {left : ℕ} {t t₁ : List ℕ} {r₁ : Read} (a : Reads number s c left t t₁ r₁) where
-  pub inner_first : ((x : Bool) → r₁ ≡ Err (Miss x) → ⊥) → Reads expression_factor_inner s c left t t₁ r₁
-  unfolding expression_factor_inner
-  inner_first h = else_first a (fn_call or others) h
-
-  module _ (x : Bool) (e : r₁ ≡ Err (Miss x)) {t₂ : List ℕ} {r₂ : Read} (b : Reads fn_call s (cursor c.at.0 c.count.0 x) left t₁ t₂ r₂) where
-    pub inner_second : ((y : Bool) → r₂ ≡ Err (Miss y) → ⊥) → Reads expression_factor_inner s c left t t₂ r₂
-    unfolding expression_factor_inner
-    inner_second h = else_miss a (fn_call or others) x e (else_first b others h)
-
-    pub inner_third : (y : Bool) → r₂ ≡ Err (Miss y) → {t₃ : List ℕ} {r₃ : Read} → Reads others s (cursor c.at.0 c.count.0 y) left t₂ t₃ r₃
-        → Reads expression_factor_inner s c left t t₃ r₃
-    unfolding expression_factor_inner
-    inner_third y f d = else_miss a (fn_call or others) x e (else_miss b others y f d)
+        same : x || k.met ≡ x
+        same = let y = missed a x miss in ap (◌|| k.met) y.1 ∙ twice k.met y.0 ∙ sym y.1
 
 -- Signs ----------------------------------------------------------------------
 
@@ -175,10 +149,10 @@ module _ {b : ℕ} {s : List ℕ} {c : Cursor} {t t' : List ℕ} {r : Read} (a :
       sign_one (r ∷ []) h = omega arith
       sign_one (r ∷ (s ∷ v)) h = absurd h
 
-  pub maybe_miss : (x : Bool) → r ≡ Err (Miss x) → Maybe b s c t t' (cursor c.at.0 c.count.0 x)
-  maybe_miss x e =
+  pub maybe_miss : {z : Stop Bool} {x : Bool} → r ≡ Err z → z ≡ Miss x → Maybe b s c t t' (cursor c.at.0 c.count.0 x)
+  maybe_miss {x = x} e q =
       record {
-        leafs = record { reading = λ l lim. opt_miss (a.reading l lim) x e };
+        leafs = record { reading = λ l lim. opt_miss (a.reading l lim) x (e ∙ ap Err q) };
         grown = omega arith;
         one = omega arith;
         none = λ z. refl;
@@ -216,7 +190,7 @@ module _ {s : List ℕ} (c : Cursor) {k : Skip} (skips : Skips trivia s c.at.0 c
   -- no sign: the same would not fit again
   pub signed_none : Missed s k left → q.count.0 ≡ c.count.0 → Reads signed_factor s c left t t₂ (Err (Miss q.met))
   unfolding signed_factor
-  signed_none h z = row_out factorᵏ flags c skips (signs_on missed) refl
+  signed_none h z = row_out skips (signs_on missed) refl
     where
       at : q.at.0 ≡ k.at.0
       at = let same : p.count.0 ≡ c.count.0 = omega (arith, x.grown, y.grown) in y.none (z ∙ sym same) ∙ x.none same
@@ -236,13 +210,13 @@ module _ {s : List ℕ} (c : Cursor) {k : Skip} (skips : Skips trivia s c.at.0 c
   module _ {t₃ : List ℕ} {r₃ : Read} (a : Reads expression_factor_inner s q left t₂ t₃ r₃) where
     pub signed_out : IsErr r₃ → Reads signed_factor s c left t t₃ r₃
     unfolding signed_factor
-    signed_out h = row_out factorᵏ flags c skips (signs_on a.reading) h
+    signed_out h = row_out skips (signs_on a.reading) h
 
     -- what the signs add to the flags is how many rows they have
-    pub signed_got : (d : Cursor) → r₃ ≡ Ok d → c.count.0 ≤ d.count.0 → {t' : List ℕ} {z : Cursor}
+    pub signed_got : (d : Cursor) → r₃ ≡ Ok d → {t' : List ℕ} {z : Cursor}
         → Finished factorᵏ (p.count.0 - c.count.0 + 2 * (q.count.0 - p.count.0)) c k.at.0 d t₃ t' z → Reads signed_factor s c left t t' (Ok z)
     unfolding signed_factor
-    signed_got d e h b = row_got factorᵏ flags c skips (signs_on a.reading) signs_quiet d e h (p.count.0 - c.count.0 + 2 * (q.count.0 - p.count.0)) detail b
+    signed_got d e b = row_got skips (signs_on a.reading) signs_quiet d e (p.count.0 - c.count.0 + 2 * (q.count.0 - p.count.0)) detail b
       where
         detail : (l : ℕ) (v : Rows) (u : Bool) (j : ℕ) → scan (full s) signs l (here s k.at.0) ≡ fits v (here s d.at.0) u j
             → p.count.0 - c.count.0 + 2 * (q.count.0 - p.count.0) ≡ flags v

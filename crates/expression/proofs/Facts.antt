@@ -29,13 +29,13 @@ pub opt_list_quiet : T (quiet (opt (arg_list expression_arg)))
 unfolding all_rules
 opt_list_quiet = tt
 
-pub bracket_quiet : T (quiet (bracket trivia 40 closed_expression))
+pub bracket_solid : Solid (bracket trivia 40 closed_expression)
 unfolding all_rules
-bracket_quiet = tt
+bracket_solid = record { quieted = tt; slimmed = tt; rooting = tt; paying = tt }
 
-pub call_quiet : T (quiet (mname ▸ call_parens))
+pub call_solid : Solid (mname ▸ call_parens)
 unfolding all_rules
-call_quiet = tt
+call_solid = record { quieted = tt; slimmed = tt; rooting = tt; paying = tt }
 
 pub name_solid : Solid mname
 unfolding all_rules
@@ -56,14 +56,6 @@ term_solid = record { quieted = tt; slimmed = tt; rooting = tt; paying = tt }
 pub expression_solid : Solid expression
 unfolding all_rules
 expression_solid = record { quieted = tt; slimmed = tt; rooting = tt; paying = tt }
-
-pub closed_solid : Solid closed_expression
-unfolding all_rules
-closed_solid = record { quieted = tt; slimmed = tt; rooting = tt; paying = tt }
-
-pub parens_solid : Solid call_parens
-unfolding all_rules
-parens_solid = record { quieted = tt; slimmed = tt; rooting = tt; paying = tt }
 
 pub argument_solid : Solid expression_arg
 unfolding all_rules

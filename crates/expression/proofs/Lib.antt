@@ -6,4 +6,3 @@ pub mod Factor
 pub mod Terms
 pub mod Levels
 pub mod Calls
-pub mod Lists

@@ -26,4 +26,4 @@ pub record Maybe (b : ℕ) (s : List ℕ) (c : Cursor) (t t' : List ℕ) (d : Cu
   pub grown : c.count.0 ≤ d.count.0
   pub one : d.count.0 ≤ c.count.0 + 1
   pub none : d.count.0 ≡ c.count.0 → d.at.0 ≡ c.at.0
-  pub ready : Ready 0 s c → Ready 0 s d
+  pub ready : {n : ℕ} → Ready n s c → Ready n s d

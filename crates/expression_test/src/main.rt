@@ -3,6 +3,7 @@
 #![tactic(auto)]
 
 use cursor::{Cursor, Read, Stop};
+use lexis::spot::{Line, Spot};
 use std::io;
 use std::io::{BufWriter, Read as _, Write};
 use table::{Pos, ROW, RowIndex};
@@ -45,10 +46,10 @@ fn part(out: &mut impl Write, kind: u8, s: &[u8], low: usize) -> io::Result<()> 
         count: RowIndex(0),
         met: false,
     };
-    let k = trivia::trivia(s, Pos(low), false);
+    let p = Spot::<Line>::new(s, c);
     let r = match kind {
-        b'e' => expression::expression(s, c, k, LEVELS, &mut rows),
-        b'o' => operand::operand(s, c, k, LEVELS, &mut rows),
+        b'e' => expression::expression(p, LEVELS, &mut rows),
+        b'o' => operand::operand(p, LEVELS, &mut rows),
         _ => operand::config_map::config_map(s, c, LEVELS, &mut rows),
     };
     show(out, r, &rows)

@@ -1,6 +1,5 @@
 -- Where the next reader may be called, and that the row around all has room for its columns.
 use mathlib.Core.Path.{◌≡◌}
-use mathlib.Core.Bool.{Bool}
 use mathlib.Core.List.{List}
 use Prim.Native.Nat.{ℕ, ◌+◌, ◌≤◌}
 use native.Mathlib.Omega.{arith}
@@ -9,12 +8,13 @@ use Rattle.reading.specs.Grammar.{Parser}
 use Rattle.reading.proofs.Cost.{cost, slim}
 use Rattle.reading.proofs.Tests.{quiet}
 use Rattle.cursor.specs.Agree.{Reads, Ready}
-use Rattle.cursor.specs.Text.{cursor, Skips}
+use Rattle.cursor.specs.Text.{Skips}
 use Rattle.cursor.specs.declared.Cursor.{Cursor}
 use Rattle.cursor.specs.declared.Skip.{Skip}
 use Rattle.cursor.specs.Read.{Read}
 use Rattle.cursor.proofs.Laws.{moved, Solid, stepped}
-use Rattle.head.specs.Parts.{Closable}
+use Rattle.expression.proofs.Steps.{reads_ready}
+use Rattle.head.specs.Parts.{Closable, Flat}
 use Rattle.std.specs.Prelude.{Ok}
 
 -- a parser that pays for its rows but for n of them, and may have none
@@ -36,21 +36,20 @@ pub record Next (k : ℕ) (s : List ℕ) (c d : Cursor) : Type 0 where
   pub ready : Ready k s d
   pub grown : c.count.0 ≤ d.count.0
 
-pub next : {n : ℕ} {g : Parser} → Owing n g → {s : List ℕ} {c : Cursor} → Ready 0 s c → {left : ℕ} {t t' : List ℕ} {r : Read}
-    → Reads g s c left t t' r → {d : Cursor} → r ≡ Ok d → Next n s c d
-next {n} {g} ok h a {d} e =
+pub next : {n k : ℕ} {g : Parser} → Owing n g → {s : List ℕ} {c : Cursor} → Ready k s c → {left : ℕ} {t t' : List ℕ} {r : Read}
+    → Reads g s c left t t' r → {d : Cursor} → r ≡ Ok d → Next (n + k) s c d
+next {n} {g = g} ok h a {d} e =
     let m = moved g ok.quieted ok.slimmed d h.within (a.reading 0) e in
     let p = leb→le (cost g).debt ((cost g).gain + n) ok.owing in
     record { ready = record { small = h.small; within = m.within; few = omega (arith, m.rows, p, h.few) }; grown = m.grown }
 
--- behind trivia that was skipped
-pub behind_ready : {w : Parser} {s : List ℕ} {c : Cursor} {k : Skip} {n : ℕ} → Ready n s c → Skips w s c.at.0 c.met k
-    → Ready n s (cursor k.at.0 c.count.0 k.met)
-behind_ready h x = record { small = h.small; within = x.within; few = omega (arith, h.few, x.on) }
+-- behind what pays for its rows
+pub flat_ready : {g : Parser} → Solid g → {s : List ℕ} {c : Cursor} → Ready 8 s c → {t t' : List ℕ} {d : Cursor} → Flat g s c t t' (Ok d) → Ready 8 s d
+flat_ready ok h a = reads_ready ok h (a.reads 0)
 
 -- the row from c to where a part of it ended that began at d
-pub closable : {n : ℕ} {g : Parser} → Owing n g → n ≤ 8 → {w : Parser} {s : List ℕ} {c : Cursor} {k : Skip} → Ready 0 s c → Skips w s c.at.0 c.met k
-    → {d : Cursor} → Ready 0 s d → c.count.0 ≤ d.count.0 → {left : ℕ} {t t' : List ℕ} {r : Read} → Reads g s d left t t' r → Closable c k r
+pub closable : {n : ℕ} {g : Parser} → Owing n g → n ≤ 8 → {w : Parser} {s : List ℕ} {c : Cursor} {k : Skip} → Ready 8 s c → Skips w s c.at.0 c.met k
+    → {d : Cursor} → Ready 8 s d → c.count.0 ≤ d.count.0 → {left : ℕ} {t t' : List ℕ} {r : Read} → Reads g s d left t t' r → Closable c k r
 closable ok few h x i j a =
     record {
       spans = λ e q.
@@ -65,15 +64,7 @@ closable ok few h x i j a =
           };
     }
 
--- what reads behind fewer rows reads behind more
-pub more_ready : {s : List ℕ} {c : Cursor} → Ready 0 s c → Ready 4 s c
-more_ready h = record { small = h.small; within = h.within; few = omega (arith, h.few) }
-
 -- behind what has a row there is a byte
-pub past : {g : Parser} → Solid g → {s : List ℕ} {c : Cursor} → Ready 0 s c → {left : ℕ} {t t' : List ℕ} {r : Read}
+pub past : {g : Parser} → Solid g → {s : List ℕ} {c : Cursor} → Ready 8 s c → {left : ℕ} {t t' : List ℕ} {r : Read}
     → Reads g s c left t t' r → {d : Cursor} → r ≡ Ok d → 1 ≤ d.at.0
 past ok h a {d} e = omega (arith, (stepped ok d h.within (a.reading 0) e).on)
-
--- a second attempt, after what was met in the first
-pub again_ready : {s : List ℕ} {c : Cursor} {n : ℕ} → Ready n s c → (m : Bool) → Ready n s (cursor c.at.0 c.count.0 m)
-again_ready h m = record { small = h.small; within = h.within; few = h.few }

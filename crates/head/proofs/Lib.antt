@@ -4,3 +4,4 @@ pub mod Bounds
 pub mod Arguments
 pub mod Tests
 pub mod Statements
+pub mod Kept

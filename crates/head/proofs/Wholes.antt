@@ -1,5 +1,6 @@
 -- The row around all that was read: over and node, from the answers of their parts.
 use mathlib.Core.Path.{◌≡◌, refl, ap, sym, subst, ◌∙◌}
+use mathlib.Core.Bool.{Bool}
 use mathlib.Core.List.{List}
 use Prim.Native.Nat.{ℕ, ◌+◌, ◌-◌}
 use native.Mathlib.Omega.{arith}
@@ -21,8 +22,11 @@ use Rattle.cursor.proofs.Lows.{First}
 use Rattle.lexis.specs.Around.{Finished}
 use Rattle.head.specs.Parts.{whole_rows, whole_answer, Whole, Closable}
 use Rattle.head.proofs.Steps.{reads_as}
+use Rattle.cursor.proofs.Exits.{passed}
+use Rattle.cursor.specs.declared.Stop.{Stop}
 use Rattle.cursor.specs.declared.Stop.TheVariants.{Miss, Deep}
 use Rattle.std.specs.Prelude.{Ok, Err, IsErr, is_err}
+use Rattle.std.specs.Result.{IsErrAnd}
 
 -- what `whole` answers
 module _ (kind : ℕ) (c : Cursor) (k : Skip) where
@@ -39,11 +43,13 @@ module _ (kind : ℕ) (c : Cursor) (k : Skip) where
       let table = subst (λ (n : ℕ). t' ≡ pushed row_width t e.count.0 (row_record kind n c.at.0 k.at.0 e.at.0 0)) size a.table in
       record { table = table ∙ sym (ap (whole_rows kind c k t) q); answer = ap Ok a.is ∙ sym (ap whole_answer q) }
 
--- over, from the answer of its first child and that of the others
-module _ (kind : ℕ) {m : Parser} (n : Parser) {s : List ℕ} {c : Cursor} {left : ℕ} {t t₁ : List ℕ} {r₁ : Read} (a : Reads m s c left t t₁ r₁) where
-  pub over_stop : IsErr r₁ → Reads (over kind 0 m n) s c left t t₁ r₁
-  over_stop h = record { reading = λ l. over_out kind 0 n (a.reading l) h }
+-- over, from what `?` hands on from its first child
+pub over_passed : {kind : ℕ} {m n : Parser} {s : List ℕ} {c : Cursor} {left : ℕ} {t t₁ : List ℕ} {e : Stop Bool} {r : Read}
+    → Reads m s c left t t₁ (Err e) → IsErrAnd r (λ y. y ≡ e) → Reads (over kind 0 m n) s c left t t₁ r
+over_passed {kind} {n = n} a p = reads_as (passed p) (record { reading = λ l. over_out kind 0 n (a.reading l) refl })
 
+-- and from the answer of its first child and that of the others
+module _ (kind : ℕ) {m : Parser} (n : Parser) {s : List ℕ} {c : Cursor} {left : ℕ} {t t₁ : List ℕ} {r₁ : Read} (a : Reads m s c left t t₁ r₁) where
   -- k: where the first child begins
   pub over_whole : T (quiet m) → T (quiet n) → {d : Cursor} → r₁ ≡ Ok d → {t₂ : List ℕ} {r₂ : Read} → Reads n s d left t₁ t₂ r₂
       → {k : Skip} → ((l : ℕ) → Yields (First k.at.0) (scan (full s) m l (here s c.at.0))) → Closable c k r₂

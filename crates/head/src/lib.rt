@@ -1,4 +1,4 @@
-// The parts of statements that report nothing but open comments, read without the state. Each begins behind the trivia `k` before the
+// The parts of statements that report nothing but open comments, read without the state. Each begins behind the trivia before the
 // statement, line ends included, which the statement's reader has skipped once.
 #![tactic(auto)]
 

@@ -4,18 +4,18 @@ ghost use Rattle.reading.specs.Rules.{name, path, expression, arg_list};
 ghost use Rattle.head.specs.Lists.{Item, item_of};
 ghost use Rattle.cursor.specs.Agree.{Ready, Reads, Leafs};
 ghost use Rattle.literal.specs.Parts.{string_of};
-ghost use Rattle.table.specs.Kinds.{kind_number};
 ghost use Rattle.head.specs.Parts.{Flat, optional, Whole, Closable};
 ghost use Rattle.head.specs.Heads.{char_of};
 
 use cursor::{Cursor, Read, Skip, Stop};
+use lexis::spot::{Line, Spot};
 use lexis::{identifier, mark};
-use table::Kind;
+use reading::HasNumber;
 
 // A character behind its trivia.
 #[tactic(auto, unfolding(crate::specs::Heads::char_of))]
 pub fn char(s: &[u8], c: Cursor, b: u8, rows: &mut [u32]) -> Read
-    requires { Ready 0 s.now c }
+    requires { Ready 8 s.now c }
     ensures { Leafs (char_of b) s.now c rows.old rows.new result }
 {
     mark::spaced(s, c, b, rows)
@@ -23,20 +23,18 @@ pub fn char(s: &[u8], c: Cursor, b: u8, rows: &mut [u32]) -> Read
 
 #[tactic(auto, unfolding(reading::specs::Rules::name))]
 pub fn name(s: &[u8], c: Cursor, rows: &mut [u32]) -> Read
-    requires { Ready 0 s.now c }
+    requires { Ready 8 s.now c }
     ensures { Leafs name s.now c rows.old rows.new result }
 {
-    let k = trivia::trivia(s, c.at, c.met);
-    identifier::name(s, c, k, rows)
+    identifier::name(Spot::<Line>::new(s, c), rows)
 }
 
 #[tactic(auto, unfolding(reading::specs::Rules::path))]
 pub fn path(s: &[u8], c: Cursor, rows: &mut [u32]) -> Read
-    requires { Ready 0 s.now c }
+    requires { Ready 8 s.now c }
     ensures { Leafs path s.now c rows.old rows.new result }
 {
-    let k = trivia::trivia(s, c.at, c.met);
-    identifier::path(s, c, k, rows)
+    identifier::path(Spot::<Line>::new(s, c), rows)
 }
 
 // Items with commas between them. The last one, which the written reading tries with a comma and without, is read once.
@@ -47,9 +45,9 @@ pub(crate) fn list<F: Fn(&[u8], Cursor, &mut [u32]) -> Read>(
     rows: &mut [u32],
 ) -> Read
     ghost listed: { Item }
-    requires ready { Ready 0 s.now c }
-    requires callable { (d : _) (t : _) → Ready 0 s.now d → F.pre item s d t }
-    requires reads { (d : _) (t : _) (r : _) (u : _) → Ready 0 s.now d → F.post item s d t r u → Flat (item_of listed) s.now d t.now u.now r }
+    requires ready { Ready 8 s.now c }
+    requires callable { (d : _) (t : _) → Ready 8 s.now d → F.pre item s d t }
+    requires reads { (d : _) (t : _) (r : _) (u : _) → Ready 8 s.now d → F.post item s d t r u → Flat (item_of listed) s.now d t.now u.now r }
     ensures { Flat (arg_list (item_of listed)) s.now c rows.old rows.new result }
 {
     let mut next = c;
@@ -66,19 +64,17 @@ pub(crate) fn list<F: Fn(&[u8], Cursor, &mut [u32]) -> Read>(
 
 // A string, with paths in braces or without.
 pub fn string(s: &[u8], c: Cursor, interpolated: bool, rows: &mut [u32]) -> Read
-    requires { Ready 0 s.now c }
+    requires { Ready 8 s.now c }
     ensures { Leafs (string_of interpolated) s.now c rows.old rows.new result }
 {
-    let k = trivia::trivia(s, c.at, c.met);
-    literal::text::string(s, c, k, interpolated, rows)
+    literal::text::string(Spot::<Line>::new(s, c), interpolated, rows)
 }
 
 pub fn expression(s: &[u8], c: Cursor, left: usize, rows: &mut [u32]) -> Read
-    requires { Ready 0 s.now c }
+    requires { Ready 8 s.now c }
     ensures { Reads expression s.now c left rows.old rows.new result }
 {
-    let k = trivia::trivia(s, c.at, c.met);
-    expression::expression(s, c, k, left, rows)
+    expression::expression(Spot::<Line>::new(s, c), left, rows)
 }
 
 // What was tried from `c` on may be missing.
@@ -93,9 +89,9 @@ pub fn optional(c: Cursor, f: Read) -> Read
 }
 
 // The row around all that was read from `c` on, whose trivia ended at `k`, if its last part was read.
-pub fn whole(c: Cursor, k: Skip, f: Read, kind: Kind, rows: &mut [u32]) -> Read
+pub fn whole<K: HasNumber + Copy>(c: Cursor, k: Skip, f: Read, kind: K, rows: &mut [u32]) -> Read
     requires { Closable c k f }
-    ensures { Whole (kind_number kind) c k f rows.old rows.new result }
+    ensures { Whole (K.number kind) c k f rows.old rows.new result }
 {
     let e = f?;
     Ok(mark::around(c, k.at, e, kind, 0, rows))

@@ -8,7 +8,7 @@ ghost use Rattle.number.specs.Answers.{base_of, told};
 ghost use Rattle.number.specs.Part.{part_of};
 
 use number::{NumberType, ValueError};
-use reading::Refusal;
+use reading::{HasNumber, Refusal};
 use std::io;
 use std::io::{BufWriter, Read, Write};
 use table::{ERROR, Kind, REQUEST, ROW, column};
@@ -44,7 +44,7 @@ fn top_rows(out: &mut impl Write, text: &[u8], words: &[u32], count: usize) -> i
     }
 }
 
-// A line for each of so many top rows. Its subtree begins behind the one before.
+// A line for each of so many top rows; that the table holds so many only the definition of the answer says. A subtree begins behind the one before.
 fn lines(
     out: &mut impl Write,
     text: &[u8],

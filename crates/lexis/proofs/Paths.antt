@@ -7,18 +7,18 @@ use lib.Dec.{T, eqb}
 use lib.ListN.{length, get_or}
 use Rattle.reading.proofs.Tests.{quiet}
 use Rattle.reading.specs.Byte.{is, alphanumeric}
-use Rattle.reading.specs.Grammar.{one, Parser, ◌or◌, never, many0, leaf, always}
+use Rattle.reading.specs.Grammar.{one, Parser, ◌or◌, never, many0, leaf, always, node}
 use Rattle.reading.specs.Kind.{pathᵏ}
 use Rattle.reading.specs.Rules.{byte, trivia, identifier_name, identifier_scope, identifier_path, all_rules}
 use Rattle.table.specs.declared.Pos.{Pos}
 use Rattle.cursor.proofs.Laws.{seq_got, seq_skip}
 use Rattle.cursor.proofs.Loops.{Repeatable, Round, Looped, looped_none, many_step, many_more, many_end}
-use Rattle.cursor.specs.Agree.{Reading}
+use Rattle.cursor.specs.Agree.{Reading, Leafs}
 use Rattle.cursor.specs.Text.{cursor, skip, Skips}
 use Rattle.cursor.specs.declared.Cursor.{Cursor}
 use Rattle.cursor.specs.Read.{Read}
 use Rattle.cursor.specs.declared.Skip.{Skip}
-use Rattle.lexis.specs.Behind.{Behind, Rowed}
+use Rattle.lexis.specs.Behind.{Rowed}
 use Rattle.lexis.specs.Finds.{read_of, Finds, identifier, dotted, identifiers}
 use Rattle.lexis.proofs.Ends.{one_at, one_no, one_end, end_in, seq_at, seq_no, or_at, or_no}
 use Rattle.lexis.proofs.Marks.{behind_got, behind_no}
@@ -116,12 +116,12 @@ unfolding all_rules
 path_quiet = tt
 
 -- behind what was skipped before, the path's own trivia and identifiers
-module _ {s : List ℕ} {c : Cursor} {k j : Skip} (x : Skips trivia s k.at.0 k.met j) {t : List ℕ} where
+module _ {g : Parser} {s : List ℕ} {c : Cursor} {k j : Skip} (y : Skips g s c.at.0 c.met k) (x : Skips trivia s k.at.0 k.met j) {t : List ℕ} where
   pub path_got : {p : Pos} → Finds identifiers s j.at.0 (Some p) → {t' : List ℕ} {r : Read}
-      → Rowed pathᵏ 0 c (skip k.at.0 j.met) p.0 t t' r → Behind pathᵏ (always 0) identifier_path s c k t t' r
+      → Rowed pathᵏ 0 c (skip k.at.0 j.met) p.0 t t' r → Leafs (node pathᵏ (always 0) g identifier_path) s c t t' r
   unfolding identifier_path read_of
-  path_got {p} a w = behind_got pathᵏ 0 path_quiet p.0 j.met (λ l lim. seq_skip x (a.reading l lim j.met c.count.0 t)) w
+  path_got {p} a w = behind_got y pathᵏ 0 path_quiet p.0 j.met (λ l lim. seq_skip x (a.reading l lim j.met c.count.0 t)) w
 
-  pub path_no : Finds identifiers s j.at.0 None → Behind pathᵏ (always 0) identifier_path s c k t t (Err (Miss j.met))
+  pub path_no : Finds identifiers s j.at.0 None → Leafs (node pathᵏ (always 0) g identifier_path) s c t t (Err (Miss j.met))
   unfolding identifier_path read_of
-  path_no a = behind_no pathᵏ 0 j.met λ l lim. seq_skip x (a.reading l lim j.met c.count.0 t)
+  path_no a = behind_no y pathᵏ 0 j.met λ l lim. seq_skip x (a.reading l lim j.met c.count.0 t)

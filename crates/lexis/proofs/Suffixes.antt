@@ -4,19 +4,16 @@ use mathlib.Core.List.{List, [], ◌++◌}
 use mathlib.Core.Path.{◌≡◌, refl, ap, ap₂}
 use Prim.Native.Nat.{ℕ, max}
 use native.Mathlib.Omega.{arith}
-use Rattle.reading.specs.Grammar.{Rows, Input, Rule, Parser, ◌▸◌, ◌or◌, always}
-use Rattle.reading.specs.Kind.{charᵏ, registerᵏ}
-use Rattle.reading.specs.Rules.{byte, word, char, ws, opt, trivia, optional_suffix}
+use Rattle.reading.specs.Grammar.{Rows, Input, Rule, Parser, ◌▸◌, ◌or◌}
+use Rattle.reading.specs.Kind.{registerᵏ}
+use Rattle.reading.specs.Rules.{word, char, ws, opt, optional_suffix}
 use Rattle.reading.specs.Summary.{Summary, fits, fails, more, thenˢ, elseˢ, withˢ, Scan, scan}
 use Rattle.cursor.proofs.Laws.{ready_on, reading_is, reads_leaf, seq_out, seq_got, or_miss, or_first, opt_miss, opt_first}
 use Rattle.cursor.specs.Agree.{full, Leafs, Ready}
-use Rattle.cursor.specs.Text.{here, cursor, skip, Skips}
+use Rattle.cursor.specs.Text.{here, cursor}
 use Rattle.cursor.specs.declared.Cursor.{Cursor}
 use Rattle.cursor.specs.Read.{Read}
-use Rattle.cursor.specs.declared.Skip.{Skip}
-use Rattle.lexis.specs.Behind.{Behind}
 use Rattle.lexis.specs.Suffix.{register, suffix}
-use Rattle.lexis.proofs.Marks.{skips_next}
 use Rattle.lexis.proofs.Solids.{char_solid}
 use Rattle.cursor.specs.declared.Stop.TheVariants.{Miss}
 use Rattle.std.specs.Prelude.{Ok, Err, IsErr}
@@ -56,30 +53,26 @@ module _ {s : List ℕ} {c : Cursor} {t t' : List ℕ} {r : Read} (a : Leafs suf
   optional_none m e = record { reading = λ l lim. reading_is (optional_is (full s) l (here s c.at.0)) (opt_miss (a.reading l lim) m e) }
 
 -- the comma, and a register
-module _ {s : List ℕ} {c : Cursor} {k : Skip} (x : Skips trivia s c.at.0 c.met k) {t t₁ : List ℕ} {r₁ : Read}
-    (a : Behind charᵏ (always 44) (byte ",") s c k t t₁ r₁) where
+module _ {s : List ℕ} {c : Cursor} {t t₁ : List ℕ} {r₁ : Read} (a : Leafs (char ",") s c t t₁ r₁) where
   pub suffix_out : IsErr r₁ → Leafs suffix s c t t₁ r₁
   unfolding suffix
-  suffix_out h = record { reading = λ l lim. seq_out ((a.leafs trivia x).reading l lim) register h }
+  suffix_out h = record { reading = λ l lim. seq_out (a.reading l lim) register h }
 
   module _ (d : Cursor) (e : r₁ ≡ Ok d) where
-    pub comma_ready : Ready 4 s c → Ready 4 s d
-    comma_ready h = ready_on (char_solid false 44) d h (reads_leaf 0 (a.leafs trivia x)) e
+    pub comma_ready : Ready 8 s c → Ready 8 s d
+    comma_ready h = ready_on (char_solid false 44) d h (reads_leaf 0 a) e
 
     pub suffix_in : {t' : List ℕ} {r : Read} → Leafs register s d t₁ t' r → Leafs suffix s c t t' r
     unfolding suffix
-    suffix_in b = record { reading = λ l lim. seq_got ((a.leafs trivia x).reading l lim) register (char_solid false 44).quieted d e (b.reading l lim) }
+    suffix_in b = record { reading = λ l lim. seq_got (a.reading l lim) register (char_solid false 44).quieted d e (b.reading l lim) }
 
 -- one register, or the other
-module _ {s : List ℕ} {c : Cursor} {k : Skip} (x : Skips trivia s c.at.0 c.met k) {t t₁ : List ℕ} {r₁ : Read}
-    (a : Behind registerᵏ (always 1) (word "x") s c k t t₁ r₁) where
+module _ {s : List ℕ} {c : Cursor} {t t₁ : List ℕ} {r₁ : Read} (a : Leafs (ws registerᵏ 1 (word "x")) s c t t₁ r₁) where
   pub register_first : ((m : Bool) → r₁ ≡ Err (Miss m) → ⊥) → Leafs register s c t t₁ r₁
   unfolding register
-  register_first h = record { reading = λ l lim. or_first ((a.leafs trivia x).reading l lim) (ws registerᵏ 2 (word "y")) h }
+  register_first h = record { reading = λ l lim. or_first (a.reading l lim) (ws registerᵏ 2 (word "y")) h }
 
   pub register_second : (m : Bool) → r₁ ≡ Err (Miss m) → {t' : List ℕ} {r : Read}
-      → Behind registerᵏ (always 2) (word "y") s (cursor c.at.0 c.count.0 m) (skip k.at.0 (m || k.met)) t₁ t' r → Leafs register s c t t' r
+      → Leafs (ws registerᵏ 2 (word "y")) s (cursor c.at.0 c.count.0 m) t₁ t' r → Leafs register s c t t' r
   unfolding register
-  register_second m e b =
-      let y = skips_next x ((a.leafs trivia x).reading 0 0) m e in
-      record { reading = λ l lim. or_miss ((a.leafs trivia x).reading l lim) (ws registerᵏ 2 (word "y")) m e ((b.leafs trivia y).reading l lim) }
+  register_second m e b = record { reading = λ l lim. or_miss (a.reading l lim) (ws registerᵏ 2 (word "y")) m e (b.reading l lim) }

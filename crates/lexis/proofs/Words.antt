@@ -16,9 +16,9 @@ use Rattle.cursor.specs.declared.Skip.{Skip}
 use Rattle.word.proofs.Facts.{slight, picked_slight}
 use Rattle.word.specs.Words.{word, picked_of}
 use Rattle.word.specs.declared.Word.{Word}
-use Rattle.lexis.specs.Behind.{Placed, Rowed}
+use Rattle.lexis.specs.Behind.{Rowed}
 use Rattle.lexis.specs.Picks.{Chosen, Fitting}
-use Rattle.lexis.proofs.Marks.{row_fits}
+use Rattle.lexis.proofs.Marks.{Placed, row_fits}
 use Rattle.cursor.specs.declared.Stop.TheVariants.{Miss}
 use Rattle.std.specs.Prelude.{Err, Option, Some, None}
 

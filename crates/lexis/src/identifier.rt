@@ -1,13 +1,14 @@
 // Names and paths.
 ghost use Rattle.std.specs.Prelude.{◌≤◌, length};
-ghost use Rattle.reading.specs.Grammar.{always};
+ghost use Rattle.reading.specs.Grammar.{always, node};
 ghost use Rattle.reading.specs.Kind.{nameᵏ, pathᵏ};
 ghost use Rattle.reading.specs.Rules.{identifier_name, identifier_scope, identifier_path};
-ghost use Rattle.lexis.specs.Behind.{Behind, Placed};
+ghost use Rattle.cursor.specs.Agree.{Leafs};
 ghost use Rattle.lexis.specs.Finds.{Finds, identifier, dotted, identifiers};
 
 use crate::mark;
-use cursor::{Cursor, Read, Skip, Stop};
+use crate::spot::{Gap, Spot};
+use cursor::{Read, Skip, Stop};
 use table::{Kind, Pos};
 use trivia::class::Class;
 
@@ -69,21 +70,20 @@ fn identifiers(s: &[u8], at: Pos) -> Option<Pos>
 }
 
 // A name with its row.
-pub fn name(s: &[u8], c: Cursor, k: Skip, rows: &mut [u32]) -> Read
-    requires { Placed s.now c k }
-    ensures { Behind nameᵏ (always 0) identifier_name s.now c k rows.old rows.new result }
+pub fn name<G: Gap>(p: Spot<G>, rows: &mut [u32]) -> Read
+    ensures { Leafs (node nameᵏ (always 0) G.rule identifier_name) p.entry.text.now p.entry.start rows.old rows.new result }
 {
-    mark::name(s, c, k, b'_', Kind::Name, rows)
+    mark::name(p, b'_', Kind::Name, rows)
 }
 
 // A path with its row. It begins with trivia of its own, which is in the row's body.
-pub fn path(s: &[u8], c: Cursor, k: Skip, rows: &mut [u32]) -> Read
-    requires { Placed s.now c k }
-    ensures { Behind pathᵏ (always 0) identifier_path s.now c k rows.old rows.new result }
+pub fn path<G: Gap>(p: Spot<G>, rows: &mut [u32]) -> Read
+    ensures { Leafs (node pathᵏ (always 0) G.rule identifier_path) p.entry.text.now p.entry.start rows.old rows.new result }
 {
-    let j = trivia::trivia(s, k.at, k.met);
-    let Some(high) = identifiers(s, j.at) else {
+    let k = p.end;
+    let j = trivia::trivia(p.text, k.at, k.met);
+    let Some(high) = identifiers(p.text, j.at) else {
         return Err(Stop::Miss(j.met));
     };
-    mark::row(c, Skip { met: j.met, ..k }, high, Kind::Path, 0, rows)
+    mark::row(p.start, Skip { met: j.met, ..k }, high, Kind::Path, 0, rows)
 }

@@ -4,3 +4,4 @@
 pub mod identifier;
 pub mod mark;
 pub mod operator;
+pub mod spot;

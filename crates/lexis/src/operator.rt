@@ -4,12 +4,13 @@ ghost use Rattle.reading.specs.Kind.{mnemonicᵏ};
 ghost use Rattle.reading.specs.Rules.{term_operator, expression_operator, modifier, encoding, optional_suffix};
 ghost use Rattle.cursor.specs.Agree.{Ready, Leafs};
 ghost use Rattle.word.specs.Words.{mnemonic_list};
-ghost use Rattle.lexis.specs.Behind.{Placed};
-ghost use Rattle.lexis.specs.Picks.{Picks, Chosen, Fitting};
+ghost use Rattle.reading.specs.Grammar.{pick};
+ghost use Rattle.lexis.specs.Picks.{Chosen, Fitting};
 ghost use Rattle.table.specs.Kinds.{kind_number};
 ghost use Rattle.lexis.specs.Suffix.{register, suffix};
 
 use crate::mark;
+use crate::spot::{Gap, Line, Spot};
 use IndexRegister::{X, Y};
 use cursor::{Cursor, Read, Skip, Stop};
 use table::{Kind, Pos};
@@ -28,7 +29,7 @@ fn picked(c: Cursor, k: Skip, p: Option<Word>, kind: Kind, rows: &mut [u32]) -> 
 }
 
 pub fn term_operator(s: &[u8], c: Cursor, rows: &mut [u32]) -> Read
-    requires { Ready 4 s.now c }
+    requires { Ready 8 s.now c }
     ensures { Leafs term_operator s.now c rows.old rows.new result }
 {
     let k = trivia::trivia(s, c.at, c.met);
@@ -37,7 +38,7 @@ pub fn term_operator(s: &[u8], c: Cursor, rows: &mut [u32]) -> Read
 }
 
 pub fn expression_operator(s: &[u8], c: Cursor, rows: &mut [u32]) -> Read
-    requires { Ready 4 s.now c }
+    requires { Ready 8 s.now c }
     ensures { Leafs expression_operator s.now c rows.old rows.new result }
 {
     let k = trivia::trivia(s, c.at, c.met);
@@ -46,7 +47,7 @@ pub fn expression_operator(s: &[u8], c: Cursor, rows: &mut [u32]) -> Read
 }
 
 pub fn modifier(s: &[u8], c: Cursor, rows: &mut [u32]) -> Read
-    requires { Ready 4 s.now c }
+    requires { Ready 8 s.now c }
     ensures { Leafs modifier s.now c rows.old rows.new result }
 {
     let k = trivia::trivia(s, c.at, c.met);
@@ -55,7 +56,7 @@ pub fn modifier(s: &[u8], c: Cursor, rows: &mut [u32]) -> Read
 }
 
 pub fn encoding(s: &[u8], c: Cursor, rows: &mut [u32]) -> Read
-    requires { Ready 4 s.now c }
+    requires { Ready 8 s.now c }
     ensures { Leafs encoding s.now c rows.old rows.new result }
 {
     let k = trivia::trivia(s, c.at, c.met);
@@ -63,13 +64,12 @@ pub fn encoding(s: &[u8], c: Cursor, rows: &mut [u32]) -> Read
     picked(c, k, p, Kind::Encoding, rows)
 }
 
-// A mnemonic that may have an operand, or an implied one, behind trivia that the caller skipped.
-pub fn mnemonic(s: &[u8], c: Cursor, k: Skip, implied: bool, rows: &mut [u32]) -> Read
-    requires { Placed s.now c k }
-    ensures { Picks mnemonicᵏ (mnemonic_list implied) s.now c k rows.old rows.new result }
+// A mnemonic that may have an operand, or an implied one.
+pub fn mnemonic<G: Gap>(p: Spot<G>, implied: bool, rows: &mut [u32]) -> Read
+    ensures { Leafs (pick mnemonicᵏ G.rule (mnemonic_list implied)) p.entry.text.now p.entry.start rows.old rows.new result }
 {
-    let p = word::mnemonic::mnemonic(s, k.at, implied);
-    picked(c, k, p, Kind::Mnemonic, rows)
+    let word = word::mnemonic::mnemonic(p.text, p.end.at, implied);
+    picked(p.start, p.end, word, Kind::Mnemonic, rows)
 }
 
 // The numbers are the details of a register's row.
@@ -80,42 +80,29 @@ enum IndexRegister {
 
 // `x` or `y`.
 fn register(s: &[u8], c: Cursor, rows: &mut [u32]) -> Read
-    requires { Ready 4 s.now c }
+    requires { Ready 8 s.now c }
     ensures { Leafs register s.now c rows.old rows.new result }
 {
-    let k = trivia::trivia(s, c.at, c.met);
-    let met = match mark::word(s, c, k, b"x", Kind::Register, X as usize, rows) {
+    let p = Spot::<Line>::new(s, c);
+    let met = match mark::word(p, b"x", Kind::Register, X as usize, rows) {
         Err(Stop::Miss(met)) => met,
         read => return read,
     };
-    let past = Skip {
-        met: met | k.met,
-        ..k
-    };
-    mark::word(
-        s,
-        Cursor { met, ..c },
-        past,
-        b"y",
-        Kind::Register,
-        Y as usize,
-        rows,
-    )
+    mark::word(p.after(met), b"y", Kind::Register, Y as usize, rows)
 }
 
 // A comma and a register. The written reading tries the comma twice; it is read once here.
 fn suffix(s: &[u8], c: Cursor, rows: &mut [u32]) -> Read
-    requires { Ready 4 s.now c }
+    requires { Ready 8 s.now c }
     ensures { Leafs suffix s.now c rows.old rows.new result }
 {
-    let k = trivia::trivia(s, c.at, c.met);
-    let d = mark::char(s, c, k, b',', rows)?;
+    let d = mark::spaced(s, c, b',', rows)?;
     register(s, d, rows)
 }
 
 // That or nothing: it never misses.
 pub fn optional_suffix(s: &[u8], c: Cursor, rows: &mut [u32]) -> Read
-    requires { Ready 4 s.now c }
+    requires { Ready 8 s.now c }
     ensures { Leafs optional_suffix s.now c rows.old rows.new result }
 {
     match suffix(s, c, rows) {

@@ -1,4 +1,4 @@
-pub mod Exits
 pub mod Solids
 pub mod Numbers
 pub mod Strings
+pub mod Kept

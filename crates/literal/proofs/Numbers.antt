@@ -9,7 +9,7 @@ use borrow.Author.Tests.{eqb-true}
 use lib.Dec.{eqb}
 use lib.ListN.{length, drop}
 use Rattle.reading.specs.Byte.{bytes, is, begins, digit, given}
-use Rattle.reading.specs.Grammar.{Rows, Input, Leaf, one, run1, tag_no_case, Parser, empty, ◌▸◌, ◌or◌, leaf, under, taken, always}
+use Rattle.reading.specs.Grammar.{Rows, Input, Leaf, one, run1, tag_no_case, Parser, ◌▸◌, ◌or◌, leaf, under, taken, always}
 use Rattle.reading.specs.Kind.{numberᵏ, number_typeᵏ, number_textᵏ}
 use Rattle.reading.specs.Rules.{ws, word, trivia, decimal, number, all_rules}
 use Rattle.reading.specs.Summary.{Summary, fits, fails, more, thenˢ, elseˢ, withˢ, takeˢ, scan}
@@ -24,11 +24,11 @@ use Rattle.cursor.specs.Text.{here, cursor, skip, Skips}
 use Rattle.cursor.specs.declared.Cursor.{Cursor}
 use Rattle.cursor.specs.Read.{Read}
 use Rattle.cursor.specs.declared.Skip.{Skip}
-use Rattle.lexis.specs.Behind.{Behind, Placed, Rowed}
+use Rattle.lexis.specs.Behind.{Rowed}
 use Rattle.lexis.specs.Around.{Spans, Finished}
 use Rattle.lexis.specs.Finds.{read_of, Finds}
 use Rattle.lexis.proofs.Ends.{byte_at, end_in}
-use Rattle.lexis.proofs.Marks.{skips_again, behind_got, behind_found}
+use Rattle.lexis.proofs.Marks.{Placed, skips_again, behind_got, behind_found}
 use Rattle.literal.specs.Parts.{radix, numeral, decimals, value}
 use Rattle.literal.proofs.Solids.{value_solid}
 use Rattle.std.specs.Prelude.{Some, None, Ok, Err, IsErr}
@@ -150,21 +150,21 @@ numeral_in h f = (end_in tt tt h f).within
 
 module _ {s : List ℕ} {c : Cursor} {k : Skip} (x : Skips trivia s c.at.0 c.met k) where
   -- behind the mark the digits may be read
-  pub radix_ready : (mark : ℕ) {ty : ℕ} {d : Cursor} {t t₁ : List ℕ} {r₁ : Read} → Ready 4 s c → begins (mark ∷ []) (drop k.at.0 s) ≡ true
-      → Rowed number_typeᵏ ty c k (k.at.0 + 1) t t₁ r₁ → r₁ ≡ Ok d → Ready 4 s d
-  radix_ready mark {d = d} h e a p =
-      subst (Ready 4 s) (sym (behind_row d a p))
+  pub radix_ready : {n : ℕ} (mark : ℕ) {ty : ℕ} {d : Cursor} {t t₁ : List ℕ} {r₁ : Read} → Ready n s c → begins (mark ∷ []) (drop k.at.0 s) ≡ true
+      → Rowed number_typeᵏ ty c k (k.at.0 + 1) t t₁ r₁ → r₁ ≡ Ok d → Ready n s d
+  radix_ready {n} mark {d = d} h e a p =
+      subst (Ready n s) (sym (behind_row d a p))
       (record { small = h.small; within = byte_in mark s k.at.0 x.within e; few = omega (arith, h.few, x.on) })
 
-  pub radix_leafs : (mark ty class : ℕ) → begins (mark ∷ []) (drop k.at.0 s) ≡ true → {d : Cursor} {j : Skip} {t t₁ t' : List ℕ} {r₁ r : Read}
-      → Rowed number_typeᵏ ty c k (k.at.0 + 1) t t₁ r₁ → r₁ ≡ Ok d → Skips trivia s d.at.0 d.met j
-      → Behind number_textᵏ (always 0) (leaf (run1 (member class))) s d j t₁ t' r → Leafs (radix mark ty class) s c t t' r
+  pub radix_leafs : (mark ty class : ℕ) → begins (mark ∷ []) (drop k.at.0 s) ≡ true → {d : Cursor} {t t₁ t' : List ℕ} {r₁ r : Read}
+      → Rowed number_typeᵏ ty c k (k.at.0 + 1) t t₁ r₁ → r₁ ≡ Ok d
+      → Leafs (ws number_textᵏ 0 (leaf (run1 (member class)))) s d t₁ t' r → Leafs (radix mark ty class) s c t t' r
   unfolding all_rules
-  radix_leafs mark ty class e {d} a p y b =
+  radix_leafs mark ty class e {d} a p b =
       record {
         reading = λ l lim.
-            seq_got (((behind_found number_typeᵏ ty tt (byte_at mark s k.at.0 e (record { 0 = k.at.0 + 1 }) refl) a).leafs trivia x).reading l lim)
-            (ws number_textᵏ 0 (leaf (run1 (member class)))) tt d p ((b.leafs trivia y).reading l lim);
+            seq_got ((behind_found x number_typeᵏ ty tt (byte_at mark s k.at.0 e (record { 0 = k.at.0 + 1 }) refl) a).reading l lim)
+            (ws number_textᵏ 0 (leaf (run1 (member class)))) tt d p (b.reading l lim);
       }
 
   pub decimal_leafs : {p : Pos} → Finds numeral s k.at.0 (Some p) → {d : Cursor} {t t₁ t' : List ℕ} {r₁ r : Read} → c.at.0 ≤ length s
@@ -174,28 +174,27 @@ module _ {s : List ℕ} {c : Cursor} {k : Skip} (x : Skips trivia s c.at.0 c.met
   decimal_leafs {p} f {d} {t} {t₁} {t'} {r₁} {r} h w a e b =
       record {
         reading = λ l lim. reading_is (decimals_is x l)
-            (seq_got ((type.leafs empty (skips_empty s c.at.0 c.met h)).reading l lim) (ws number_textᵏ 0 numeral) tt d e (text l lim));
+            (seq_got (type.reading l lim) (ws number_textᵏ 0 numeral) tt d e (text l lim));
       }
     where
-      type : Behind number_typeᵏ (always 2) empty s c (skip c.at.0 c.met) t t₁ r₁
-      type = behind_got number_typeᵏ 2 tt c.at.0 c.met (λ l lim. empty_is s l lim c.at.0 c.met c.count.0 t)
+      type : Leafs decimal s c t t₁ r₁
+      type = behind_got (skips_empty s c.at.0 c.met h) number_typeᵏ 2 tt c.at.0 c.met (λ l lim. empty_is s l lim c.at.0 c.met c.count.0 t)
           (subst (λ (n : ℕ). Rowed number_typeᵏ n c (skip c.at.0 c.met) c.at.0 t t₁ r₁) w a)
 
       text : (l lim : ℕ) → Reading (ws number_textᵏ 0 numeral) s l lim d.at.0 d.met d.count.0 t₁ t' r
       text l lim =
-          ((behind_found number_textᵏ 0 tt f b).leafs trivia
-          (subst (λ (d : Cursor). Skips trivia s d.at.0 d.met k) (sym (behind_row d a e)) x)).reading l lim
+          (behind_found (subst (λ (d : Cursor). Skips trivia s d.at.0 d.met k) (sym (behind_row d a e)) x) number_textᵏ 0 tt f b).reading l lim
 
   -- behind the type the text's row may be pushed
-  pub decimal_placed : {d : Cursor} {t t₁ : List ℕ} {r₁ : Read} → Ready 4 s c
+  pub decimal_placed : {d : Cursor} {t t₁ : List ℕ} {r₁ : Read} → Ready 8 s c
       → {ty : ℕ} → Rowed number_typeᵏ ty c (skip c.at.0 c.met) c.at.0 t t₁ r₁ → r₁ ≡ Ok d → Placed s d k
   decimal_placed {d} h a e =
       subst (λ (d : Cursor). Placed s d k) (sym (behind_row d a e))
       (record { ready = record { small = h.small; within = h.within; few = omega (arith, h.few) }; on = x.on; within = x.within })
 
-  pub decimal_none : Finds numeral s k.at.0 None → (t : List ℕ) → Leafs decimals s c t t (Err (Miss k.met))
-  decimal_none f t =
-      record {
+  pub decimal_none : {r : Read} → r ≡ Err (Miss k.met) → Finds numeral s k.at.0 None → (t : List ℕ) → Leafs decimals s c t t r
+  decimal_none e f t =
+      subst (λ (r : Read). Leafs decimals s c t t r) (sym e) record {
         reading = λ l lim. bare_no decimals s l lim c.at.0 c.met c.count.0 t x.open? k.met x.noted
             (decimals_fails x l (finds_fails f l));
       }
@@ -249,10 +248,6 @@ or_last {m} {n} {s} {l} {lim} {i} {met} {base} {t} {t'} {r} b a h e = go r refl
         (or_miss a n y p (bare_no n s l lim i y base t' b y (h y p) e))
     go (Err Deep) p = or_first a n λ y z. miss_deep y (sym z ∙ p)
 
--- a second attempt may begin where the first one did
-pub ready_again : {n : ℕ} {s : List ℕ} {c : Cursor} (met : Bool) → Ready n s c → Ready n s (cursor c.at.0 c.count.0 met)
-ready_again met h = record { small = h.small; within = h.within; few = h.few }
-
 module _ {s : List ℕ} {c : Cursor} {k : Skip} (x : Skips trivia s c.at.0 c.met k) where
   -- behind the trivia stands `$`
   pub at_hex : begins (36 ∷ []) (drop k.at.0 s) ≡ true → {t t' : List ℕ} {r : Read} → Leafs (radix 36 1 3) s c t t' r → Leafs value s c t t' r
@@ -301,7 +296,7 @@ module _ {s : List ℕ} {c : Cursor} (h : c.at.0 ≤ length s) {t t₁ : List �
               (node_got numberᵏ (always 0) (skips_empty s c.at.0 c.met h) (a.reading l lim) value_solid.quieted d e f.size 0 f.counts λ v b j q. refl);
         })
 
-    pub number_spans : Ready 4 s c → Spans c c.at.0 d
+    pub number_spans : Ready 8 s c → Spans c c.at.0 d
     number_spans r =
         let x : Stepped s c.at.0 c.count.0 d = stepped value_solid d h (a.reading 0 0) e in
         let small = r.small in

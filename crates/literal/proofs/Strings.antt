@@ -9,19 +9,18 @@ use lib.ListN.{length, drop}
 use Rattle.reading.proofs.Cost.{slim}
 use Rattle.reading.proofs.Tests.{quiet}
 use Rattle.reading.specs.Byte.{is, begins}
-use Rattle.reading.specs.Grammar.{one, run1, Parser, empty, ◌▸◌, many0, leaf, always}
+use Rattle.reading.specs.Grammar.{one, run1, Parser, empty, ◌▸◌, many0, leaf, always, node}
 use Rattle.reading.specs.Kind.{charᵏ, pieceᵏ, pathᵏ, stringᵏ}
 use Rattle.reading.specs.Rules.{byte, char, located', trivia, identifier_path, piece, interpolation, quoted, interpolated_string, quoted_string, all_rules}
 use Rattle.trivia.specs.Class.{among}
-use Rattle.cursor.proofs.Laws.{moved, Stepped, stepped, reading_to, skips_empty, seq_out, seq_got, or_miss, or_first, over_out, over_no, over_got}
+use Rattle.cursor.proofs.Laws.{moved, Stepped, stepped, reading_to, seq_out, seq_got, or_miss, or_first, over_out, over_no, over_got}
 use Rattle.cursor.proofs.Loops.{Repeatable}
 use Rattle.cursor.proofs.Lows.{low_first, low_node}
 use Rattle.cursor.specs.Agree.{Reading, Leafs, Ready}
-use Rattle.cursor.specs.Text.{cursor, skip, Skips}
+use Rattle.cursor.specs.Text.{cursor, Skips}
 use Rattle.cursor.specs.declared.Cursor.{Cursor}
 use Rattle.cursor.specs.Read.{Read}
 use Rattle.cursor.specs.declared.Skip.{Skip}
-use Rattle.lexis.specs.Behind.{Behind, Placed}
 use Rattle.lexis.specs.Around.{Spans, Finished}
 use Rattle.lexis.specs.Finds.{read_of}
 use Rattle.lexis.proofs.Ends.{byte_at, byte_no}
@@ -40,10 +39,6 @@ inner_quiet : T (quiet inner)
 unfolding all_rules
 inner_quiet = tt
 
-inner_slim : T (slim inner)
-unfolding all_rules
-inner_slim = tt
-
 module _ {s : List ℕ} {c : Cursor} where
   -- no brace
   pub interpolation_no : begins (123 ∷ []) (drop c.at.0 s) ≡ false → (t : List ℕ) → Leafs interpolation s c t t (Err (Miss c.met))
@@ -53,17 +48,15 @@ module _ {s : List ℕ} {c : Cursor} where
         reading = λ l lim. seq_out ((byte_no 123 s c.at.0 e).reading l lim c.met c.count.0 t) (inner ▸ byte "}") refl;
       }
 
-  module _ (h : Ready 4 s c) (e : begins (123 ∷ []) (drop c.at.0 s) ≡ true) where
+  module _ (h : Ready 8 s c) (e : begins (123 ∷ []) (drop c.at.0 s) ≡ true) where
     -- behind it the path may be read
-    pub inner_placed : Placed s (cursor (c.at.0 + 1) c.count.0 c.met) (skip (c.at.0 + 1) c.met)
-    inner_placed =
-        let n = byte_in 123 s c.at.0 h.within e in
-        record { ready = record { small = h.small; within = n; few = omega (arith, h.few) }; on = omega arith; within = n }
+    pub inner_ready : Ready 8 s (cursor (c.at.0 + 1) c.count.0 c.met)
+    inner_ready = record { small = h.small; within = byte_in 123 s c.at.0 h.within e; few = omega (arith, h.few) }
 
     module _ {t t₁ : List ℕ} {r₁ : Read}
-        (a : Behind pathᵏ (always 0) identifier_path s (cursor (c.at.0 + 1) c.count.0 c.met) (skip (c.at.0 + 1) c.met) t t₁ r₁) where
+        (a : Leafs inner s (cursor (c.at.0 + 1) c.count.0 c.met) t t₁ r₁) where
       inside : (l lim : ℕ) → Reading inner s l lim (c.at.0 + 1) c.met c.count.0 t t₁ r₁
-      inside l lim = (a.leafs empty (skips_empty s (c.at.0 + 1) c.met (byte_in 123 s c.at.0 h.within e))).reading l lim
+      inside l lim = a.reading l lim
 
       braced : {t' : List ℕ} {r : Read} → ((l lim : ℕ) → Reading (inner ▸ byte "}") s l lim (c.at.0 + 1) c.met c.count.0 t t' r)
           → Leafs interpolation s c t t' r
@@ -79,9 +72,6 @@ module _ {s : List ℕ} {c : Cursor} where
       interpolation_out z = braced λ l lim. seq_out (inside l lim) (byte "}") z
 
       module _ (d : Cursor) (p : r₁ ≡ Ok d) where
-        pub inner_in : d.at.0 ≤ length s
-        inner_in = (moved inner inner_quiet inner_slim d (byte_in 123 s c.at.0 h.within e) (inside 0 0) p).within
-
         -- no closing brace, or one
         pub interpolation_open : begins (125 ∷ []) (drop d.at.0 s) ≡ false → Leafs interpolation s c t t₁ (Err (Miss d.met))
         unfolding read_of
@@ -97,10 +87,10 @@ module _ {s : List ℕ} {c : Cursor} where
 -- Items ----------------------------------------------------------------------
 
 module _ {s : List ℕ} {c : Cursor} {t t₁ : List ℕ} {r₁ : Read}
-    (h : c.at.0 ≤ length s) (a : Behind pieceᵏ (always 0) (leaf (run1 (among 6 false))) s c (skip c.at.0 c.met) t t₁ r₁) where
+    (a : Leafs (node pieceᵏ (always 0) empty (leaf (run1 (among 6 false)))) s c t t₁ r₁) where
   piece_leafs : Leafs piece s c t t₁ r₁
   unfolding piece
-  piece_leafs = a.leafs empty (skips_empty s c.at.0 c.met h)
+  piece_leafs = a
 
   -- a piece
   pub item_first : (b : Bool) → ((y : Bool) → r₁ ≡ Err (Miss y) → ⊥) → Leafs (item_of b) s c t t₁ r₁
@@ -150,9 +140,9 @@ unfolding all_rules
 char_quiet = tt
 
 module _ (b : Bool) {s : List ℕ} {c : Cursor} {k : Skip} (x : Skips trivia s c.at.0 c.met k) {t t₁ : List ℕ} {r₁ : Read}
-    (a : Behind charᵏ (always 34) (leaf (one (is 34))) s c k t t₁ r₁) where
+    (a : Leafs (char "\"") s c t t₁ r₁) where
   quote : (l lim : ℕ) → Reading (char "\"") s l lim c.at.0 c.met c.count.0 t t₁ r₁
-  quote l lim = (a.leafs trivia x).reading l lim
+  quote l lim = a.reading l lim
 
   -- no opening quote
   pub string_out : IsErr r₁ → Leafs (string_of b) s c t t₁ r₁
@@ -163,7 +153,7 @@ module _ (b : Bool) {s : List ℕ} {c : Cursor} {k : Skip} (x : Skips trivia s c
     quote_step h = stepped (char_solid false 34) d h (quote 0 0) e
 
     -- behind it the items may be read
-    pub quote_ready : Ready 4 s c → Ready 4 s d
+    pub quote_ready : Ready 8 s c → Ready 8 s d
     quote_ready h = let y = quote_step h.within in record { small = h.small; within = y.within; few = omega (arith, h.few, y.rows) }
 
     module _ {t₂ : List ℕ} {r₂ : Read} (g : Leafs (many0 (item_of b)) s d t₁ t₂ r₂) where
@@ -173,7 +163,7 @@ module _ (b : Bool) {s : List ℕ} {c : Cursor} {k : Skip} (x : Skips trivia s c
 
       module _ (n : Cursor) (p : r₂ ≡ Ok n) where
         -- the row around it fits
-        pub string_spans : Ready 4 s c → Spans c k.at.0 (cursor (n.at.0 + 1) n.count.0 n.met)
+        pub string_spans : Ready 8 s c → Spans c k.at.0 (cursor (n.at.0 + 1) n.count.0 n.met)
         string_spans h =
             let y = quote_step h.within in
             let m = moved (many0 (item_of b)) (item_repeats b).quieted (items_slim b) n y.within (g.reading 0 0) p in

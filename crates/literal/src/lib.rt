@@ -1,5 +1,5 @@
-// Numbers and strings. Each is called behind trivia that the caller skipped.
+// Numbers and strings. Each is read behind the trivia of a line.
 #![tactic(auto)]
 
-pub mod number;
+pub mod numeral;
 pub mod text;

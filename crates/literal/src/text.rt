@@ -1,18 +1,18 @@
 // Strings: pieces, and in an interpolated one paths in braces.
 ghost use Rattle.reading.specs.Grammar.{many0};
-ghost use Rattle.reading.specs.Rules.{trivia, interpolation};
+ghost use Rattle.reading.specs.Rules.{interpolation};
 ghost use Rattle.cursor.specs.Agree.{Ready, Leafs};
-ghost use Rattle.cursor.specs.Text.{Skips};
 ghost use Rattle.literal.specs.Parts.{item_of, string_of};
 
-use cursor::{Cursor, Read, Skip, Stop};
+use cursor::{Cursor, Read, Stop};
+use lexis::spot::{Line, Nothing, Spot};
 use lexis::{identifier, mark};
 use table::{Kind, Pos};
 use trivia::class::Class;
 
 // A path in braces: only the path has a row.
 fn interpolation(s: &[u8], c: Cursor, rows: &mut [u32]) -> Read
-    requires { Ready 4 s.now c }
+    requires { Ready 8 s.now c }
     ensures { Leafs interpolation s.now c rows.old rows.new result }
 {
     let low = c.at;
@@ -22,7 +22,7 @@ fn interpolation(s: &[u8], c: Cursor, rows: &mut [u32]) -> Read
     }
     let at = Pos(low.0 + 1);
     let count = c.count;
-    let d = identifier::path(s, Cursor { at, count, met }, Skip { at, met }, rows)?;
+    let d = identifier::path(Spot::<Nothing>::new(s, Cursor { at, count, met }), rows)?;
     if !trivia::byte_is(s, d.at, b'}') {
         return Err(Stop::Miss(d.met));
     }
@@ -34,14 +34,16 @@ fn interpolation(s: &[u8], c: Cursor, rows: &mut [u32]) -> Read
 
 // A piece, or in an interpolated string a path in braces.
 fn item(s: &[u8], c: Cursor, interpolated: bool, rows: &mut [u32]) -> Read
-    requires { Ready 4 s.now c }
+    requires { Ready 8 s.now c }
     ensures { Leafs (item_of interpolated) s.now c rows.old rows.new result }
 {
-    let k = Skip {
-        at: c.at,
-        met: c.met,
-    };
-    let m = match mark::run(s, c, k, Class::EndsPiece, false, Kind::Piece, rows) {
+    let m = match mark::run(
+        Spot::<Nothing>::new(s, c),
+        Class::EndsPiece,
+        false,
+        Kind::Piece,
+        rows,
+    ) {
         Err(Stop::Miss(m)) => m,
         read => return read,
     };
@@ -53,7 +55,7 @@ fn item(s: &[u8], c: Cursor, interpolated: bool, rows: &mut [u32]) -> Read
 
 // All items.
 fn items(s: &[u8], c: Cursor, interpolated: bool, rows: &mut [u32]) -> Read
-    requires { Ready 4 s.now c }
+    requires { Ready 8 s.now c }
     ensures { Leafs (many0 (item_of interpolated)) s.now c rows.old rows.new result }
 {
     let mut d = c;
@@ -70,19 +72,17 @@ fn items(s: &[u8], c: Cursor, interpolated: bool, rows: &mut [u32]) -> Read
 }
 
 // A string, from its opening quote to its closing one, which has no row.
-pub fn string(s: &[u8], c: Cursor, k: Skip, interpolated: bool, rows: &mut [u32]) -> Read
-    requires ready { Ready 4 s.now c }
-    requires skips { Skips trivia s.now c.at.0 c.met k }
-    ensures { Leafs (string_of interpolated) s.now c rows.old rows.new result }
+pub fn string(p: Spot<Line>, interpolated: bool, rows: &mut [u32]) -> Read
+    ensures { Leafs (string_of interpolated) p.entry.text.now p.entry.start rows.old rows.new result }
 {
-    let d = mark::char(s, c, k, b'"', rows)?;
-    let e = items(s, d, interpolated, rows)?;
-    if !trivia::byte_is(s, e.at, b'"') {
+    let d = mark::char(p, b'"', rows)?;
+    let e = items(p.text, d, interpolated, rows)?;
+    if !trivia::byte_is(p.text, e.at, b'"') {
         return Err(Stop::Miss(e.met));
     }
     let end = Cursor {
         at: Pos(e.at.0 + 1),
         ..e
     };
-    Ok(mark::around(c, k.at, end, Kind::String, 0, rows))
+    Ok(mark::around(p.start, p.end.at, end, Kind::String, 0, rows))
 }

@@ -14,6 +14,11 @@ base_of Hex = hexadecimal
 base_of Dec = decimal
 base_of Bin = binary
 
+abbrev pub type_number : NumberType → ℕ
+type_number Hex = 1
+type_number Dec = 2
+type_number Bin = 3
+
 -- the types as the details of rows of kind 49 have them
 unfoldable pub base_numbered : ℕ → Option Base
 base_numbered n = cond (eqb n 1) (some hexadecimal) (cond (eqb n 2) (some decimal) (cond (eqb n 3) (some binary) none))

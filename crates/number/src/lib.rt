@@ -3,18 +3,26 @@
 
 ghost use Rattle.std.specs.Prelude.{◌≡◌, ◌+◌, ◌*◌};
 ghost use Rattle.reading.specs.Number.{radix, same, lowered, digits_value, number_value};
-ghost use Rattle.number.specs.Answers.{base_of, refusal_number, TypeOf, told};
+ghost use Rattle.number.specs.Answers.{base_of, type_number, refusal_number, TypeOf, told};
 ghost use Rattle.number.specs.Steps.{digit_or_none, capped, decided};
 
-use reading::Refusal;
+use reading::{HasNumber, Refusal};
 use table::Pos;
 
-// The base of a number, by the mark before it.
+// The base of a number, by the mark before it. A row of kind 49 has its number as the detail.
 #[derive(Clone, Copy, Debug, PartialEq, Eq)]
 pub enum NumberType {
-    Hex,
+    Hex = 1,
     Dec,
     Bin,
+}
+
+impl HasNumber for NumberType {
+    ghost number = { type_number };
+
+    fn number(&self) -> u32 {
+        *self as u32
+    }
 }
 
 // A number that no number type has.
@@ -27,10 +35,8 @@ pub enum ValueError {
     TooLarge,
 }
 
-impl Refusal for ValueError {
+impl HasNumber for ValueError {
     ghost number = { refusal_number };
-
-    ghost gives = { λ _. 0 };
 
     fn number(&self) -> u32 {
         match self {
@@ -38,13 +44,17 @@ impl Refusal for ValueError {
             ValueError::TooLarge => 9,
         }
     }
+}
+
+impl Refusal for ValueError {
+    ghost gives = { λ _. 0 };
 
     fn gives(&self) -> usize {
         0
     }
 }
 
-// A number type by its number: the detail of a row of kind 49.
+// A number type by its number.
 impl TryFrom<u32> for NumberType {
     type Error = UnknownType;
 

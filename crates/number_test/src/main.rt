@@ -5,7 +5,7 @@
 
 use fields::Fields;
 use number::{NumberType, ValueError};
-use reading::Refusal;
+use reading::{HasNumber, Refusal};
 use std::io;
 use std::io::{BufWriter, Read, Write};
 use table::{ERROR, Kind, REQUEST, ROW, column};
@@ -16,16 +16,21 @@ const LONGEST: u64 = 65536;
 // So many bytes stand before a text, and so many behind it.
 const MARGIN: usize = 32;
 
-// What is expected of a part. Where `row` is not 0, the part is the body of that row of the text's reading, which has so many numbers.
+// A row of a reading, and how many numbers the reading has.
 #[derive(Clone, Copy)]
-struct Expected {
+struct Body {
     row: usize,
     numbers: usize,
-    number_type: usize,
+}
+
+// What is expected of a part. Where the text is read, the part is the body of a row.
+#[derive(Clone, Copy)]
+struct Expected {
+    body: Option<Body>,
+    ty: NumberType,
     low: usize,
     high: usize,
-    refusal: usize,
-    value: usize,
+    answer: Result<u64, ValueError>,
 }
 
 fn main(rt: HostRuntime) -> io::Result<()> {
@@ -45,48 +50,55 @@ fn case(line: &[u8], text: &mut [u8]) -> bool {
 // Lays the text between such bytes, and compares there.
 fn between(line: &[u8], around: u8, text: &mut [u8]) -> bool {
     let mut fields = Fields::new(line);
-    let expected = expected_of(&mut fields);
+    let Some(expected) = expected_of(&mut fields) else {
+        return false;
+    };
     let low = fields::put(text, 0, MARGIN, around);
     let high = fields.runs(text, low);
     let end = fields::put(text, high, MARGIN, around);
     end < text.len() && compare(expected, &text[low..high])
 }
 
-fn expected_of(fields: &mut Fields) -> Expected {
-    Expected {
-        row: fields.number(),
-        numbers: fields.number(),
-        number_type: fields.number(),
+// None where the type or the answer is none. Row 0 stands for a text that is not read.
+fn expected_of(fields: &mut Fields) -> Option<Expected> {
+    let row = fields.number();
+    let numbers = fields.number();
+    Some(Expected {
+        body: (row != 0).then_some(Body { row, numbers }),
+        ty: type_of(fields.number())?,
         low: fields.number(),
         high: fields.number(),
-        refusal: fields.number(),
-        value: fields.number(),
+        answer: answer_of(fields.number(), fields.number())?,
+    })
+}
+
+fn type_of(number: usize) -> Option<NumberType> {
+    NumberType::try_from(u32::try_from(number).ok()?).ok()
+}
+
+// A value where the refusal is 0; or the refusal of that number, and what it gives.
+fn answer_of(refusal: usize, value: usize) -> Option<Result<u64, ValueError>> {
+    if refusal == 0 {
+        return Some(Ok(value as u64));
     }
+    [ValueError::NotANumber, ValueError::TooLarge]
+        .into_iter()
+        .find(|e| e.number() as usize == refusal && e.gives() == value)
+        .map(Err)
 }
 
 fn compare(e: Expected, text: &[u8]) -> bool {
-    (e.row == 0 || read(e, text)) && valued(e, text)
+    e.body.is_none_or(|body| read(e, body, text)) && valued(e, text)
 }
 
 // The value of the part against what is expected.
 fn valued(e: Expected, text: &[u8]) -> bool {
-    match value(e, text) {
-        None => false,
-        Some(Ok(v)) => e.refusal == 0 && v == e.value as u64,
-        Some(Err(r)) => e.refusal == r.number() as usize && e.value == r.gives(),
-    }
-}
-
-// None where the part is outside the text, or the type is none.
-fn value(e: Expected, text: &[u8]) -> Option<Result<u64, ValueError>> {
-    let part = text.get(e.low..e.high)?;
-    let number_type = u32::try_from(e.number_type).ok()?;
-    let ty = NumberType::try_from(number_type).ok()?;
-    Some(number::value(ty, part))
+    text.get(e.low..e.high)
+        .is_some_and(|part| number::value(e.ty, part) == e.answer)
 }
 
 // Whether the text's reading has so many numbers, and the row.
-fn read(e: Expected, text: &[u8]) -> bool {
+fn read(e: Expected, body: Body, text: &[u8]) -> bool {
     let mut rows = [0u32; 256 * ROW];
     let mut errors = [0u32; 64 * ERROR];
     let mut requests = [0u32; 64 * REQUEST];
@@ -95,7 +107,7 @@ fn read(e: Expected, text: &[u8]) -> bool {
         return false;
     };
     let (rows, _) = rows.as_chunks::<ROW>();
-    numbers(rows, x.rows) == e.numbers && has(rows, e)
+    numbers(rows, x.rows) == body.numbers && has(rows, body.row, e)
 }
 
 fn numbers(rows: &[[u32; ROW]], count: usize) -> usize {
@@ -106,14 +118,12 @@ fn numbers(rows: &[[u32; ROW]], count: usize) -> usize {
 }
 
 // The row has the part's places, and the one before it the number's type.
-fn has(rows: &[[u32; ROW]], e: Expected) -> bool {
-    if e.row == 0 || rows.len() <= e.row {
+fn has(rows: &[[u32; ROW]], row: usize, e: Expected) -> bool {
+    let Some([.., mark, part]) = rows.get(..=row) else {
         return false;
-    }
-    let mark = rows[e.row - 1];
-    let part = rows[e.row];
+    };
     mark[column::KIND] == Kind::NumberType.number()
-        && mark[column::DETAIL] as usize == e.number_type
+        && mark[column::DETAIL] == e.ty.number()
         && part[column::KIND] == Kind::NumberText.number()
         && part[column::LOW] as usize == e.low
         && part[column::HIGH] as usize == e.high

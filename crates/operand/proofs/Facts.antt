@@ -1,12 +1,11 @@
 -- What the tests say of the parsers that operands and config maps are made of: antt computes them.
 use mathlib.Core.Path.{◌≡◌, refl}
 use mathlib.Core.Bool.{Bool, true, false}
-use Prim.Native.Nat.{ℕ, ◌+◌, ◌≤◌}
+use Prim.Native.Nat.{◌+◌, ◌≤◌}
 use lib.Dec.{T, lit≤}
 use mathlib.Core.Option.{some}
-use Rattle.reading.specs.Byte.{is}
-use Rattle.reading.specs.Kind.{blockᵏ, wordᵏ, charᵏ, config_valueᵏ}
-use Rattle.reading.specs.Grammar.{one, Parser, empty, ◌▸◌, never, many0, leaf, node, over, bracket, always}
+use Rattle.reading.specs.Kind.{blockᵏ, wordᵏ, config_valueᵏ}
+use Rattle.reading.specs.Grammar.{empty, ◌▸◌, never, many0, over, bracket}
 use Rattle.reading.specs.Rules.{opt, char, mchar, mws, trivia, multiline_trivia, number, fn_call, identifier_value, current_pc, interpolated_string_factor}
 use Rattle.reading.specs.Rules.{expression, optional_suffix, config_key, config_value, kvp, all_rules}
 use Rattle.reading.proofs.Tests.{quiet}
@@ -15,10 +14,6 @@ use Rattle.reading.proofs.Verdict.{no, nothing, front}
 use Rattle.cursor.proofs.Laws.{Solid}
 use Rattle.cursor.proofs.Loops.{Repeatable}
 use Rattle.operand.specs.Parts.{closing_of}
-
--- a character behind trivia, or behind trivia with line ends
-abbrev pub marked : Parser → ℕ → Parser
-marked w b = node charᵏ (always b) w (leaf (one (is b)))
 
 pub multiline_quiet : T (quiet multiline_trivia)
 unfolding all_rules

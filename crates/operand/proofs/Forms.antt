@@ -9,9 +9,9 @@ use lib.Dec.{eqb}
 use lib.ListN.{drop}
 use Rattle.reading.specs.Byte.{is, begins, given}
 use Rattle.reading.specs.Kind.{operandᵏ, charᵏ}
-use Rattle.reading.specs.Grammar.{Rows, Input, one, empty, ◌▸◌, ◌or◌, never, leaf, bracket, under, first_low, always}
+use Rattle.reading.specs.Grammar.{Rows, Input, one, ◌▸◌, ◌or◌, never, leaf, bracket, under, first_low, always}
 use Rattle.reading.specs.Rules.{byte, char, trivia, expression}
-use Rattle.reading.specs.Rules.{register_suffix, optional_suffix, am_imm, am_ind, am_outer_ind, am_abs, operand}
+use Rattle.reading.specs.Rules.{register_suffix, optional_suffix, am_imm, am_ind, am_outer_ind, am_abs}
 use Rattle.reading.specs.Summary.{Summary, fits, fails, more, thenˢ, elseˢ, scan}
 use Rattle.reading.proofs.Verdict.{first}
 use Rattle.cursor.specs.Text.{here, cursor, skip, Skips}
@@ -26,53 +26,34 @@ use Rattle.cursor.proofs.Laws.{lies, reads_leaf, leaf_deep, reading_is, seq_out,
 use Rattle.trivia.proofs.Pieces.{one_begins}
 use Rattle.lexis.proofs.Solids.{char_solid, suffix_quiet}
 use Rattle.expression.proofs.Facts.{expression_solid}
-use Rattle.expression.proofs.Steps.{else_first, else_miss}
+use Rattle.expression.proofs.Steps.{else_first, else_miss, inside_out}
 use Rattle.expression.proofs.Terms.{low_expression}
 use Rattle.operand.specs.Parts.{addressed, closing_of}
 use Rattle.lexis.specs.Around.{Finished}
 use Rattle.operand.proofs.Facts.{opened_solid, closing_quiet, closed_quiet, trying_quiet, tried_quiet}
 use Rattle.operand.proofs.Paren.{fits_fails, tried, expression_fails, closing_fails}
-use Rattle.operand.proofs.Steps.{skips_kept, over_misses, over_lacks, over_done, reads_empty, bracket_misses, behind_misses, behind_goes}
+use Rattle.operand.proofs.Steps.{skips_kept, over_misses, over_done, reads_empty, behind_misses, behind_goes}
+use Rattle.cursor.specs.declared.Stop.{Stop}
 use Rattle.cursor.specs.declared.Stop.TheVariants.{Miss, Deep}
 use Rattle.std.specs.Prelude.{Ok, Err, IsErr, is_err}
 
 -- Immediate ------------------------------------------------------------------
 
-module _ {s : List ℕ} {c : Cursor} (left : ℕ) {t t₁ : List ℕ} {r₁ : Read} (a : Leafs (char "#") s c t t₁ r₁) where
-  pub imm_misses : IsErr r₁ → Reads am_imm s c left t t₁ r₁
-  unfolding am_imm
-  imm_misses h = over_misses operandᵏ 2 expression (reads_leaf left a) h
-
-  module _ (d : Cursor) (e : r₁ ≡ Ok d) {t₂ : List ℕ} {r₂ : Read} (b : Reads expression s d left t₁ t₂ r₂) where
-    pub imm_lacks : IsErr r₂ → Reads am_imm s c left t t₂ r₂
-    unfolding am_imm
-    imm_lacks h = over_lacks operandᵏ 2 expression (reads_leaf left a) (char_solid false 35).quieted d e b h
-
-    pub imm_done : {k : Skip} → Skips trivia s c.at.0 c.met k → (x : Cursor) → r₂ ≡ Ok x → {t' : List ℕ} {z : Cursor}
-        → Finished operandᵏ 2 c k.at.0 x t₂ t' z → Reads am_imm s c left t t' (Ok z)
-    unfolding am_imm
-    imm_done {k} gap x q f =
-        over_done operandᵏ 2 expression (reads_leaf left a) (char_solid false 35).quieted d e b expression_solid.quieted x q k.at.0
-        (λ l. low_first (low_node charᵏ gap l (always 35) (leaf (one (is 35))))) f
+pub imm_done : {s : List ℕ} {c : Cursor} {k : Skip} → Skips trivia s c.at.0 c.met k → {left : ℕ} {t t₁ : List ℕ} {d : Cursor} → Leafs (char "#") s c t t₁ (Ok d)
+    → {t₂ : List ℕ} {r₂ : Read} → Reads expression s d left t₁ t₂ r₂ → {x : Cursor} → r₂ ≡ Ok x → {t' : List ℕ} {z : Cursor}
+    → Finished operandᵏ 2 c k.at.0 x t₂ t' z → Reads am_imm s c left t t' (Ok z)
+unfolding am_imm
+imm_done gap {left} a b q f =
+    over_done (reads_leaf left a) (char_solid false 35).quieted refl b expression_solid.quieted q
+    (λ l. low_first (low_node charᵏ gap l (always 35) (leaf (one (is 35))))) f
 
 -- Plain ----------------------------------------------------------------------
 
-module _ {s : List ℕ} {c : Cursor} {left : ℕ} {t t₁ : List ℕ} {r₁ : Read} (a : Reads expression s c left t t₁ r₁) where
-  pub abs_misses : IsErr r₁ → Reads am_abs s c left t t₁ r₁
-  unfolding am_abs
-  abs_misses h = over_misses operandᵏ 1 optional_suffix a h
-
-  module _ (d : Cursor) (e : r₁ ≡ Ok d) {t₂ : List ℕ} {r₂ : Read} (b : Leafs optional_suffix s d t₁ t₂ r₂) where
-    pub abs_lacks : IsErr r₂ → Reads am_abs s c left t t₂ r₂
-    unfolding am_abs
-    abs_lacks h = over_lacks operandᵏ 1 optional_suffix a expression_solid.quieted d e (reads_leaf left b) h
-
-    pub abs_done : {k : Skip} → Skips trivia s c.at.0 c.met k → (x : Cursor) → r₂ ≡ Ok x → {t' : List ℕ} {z : Cursor}
-        → Finished operandᵏ 1 c k.at.0 x t₂ t' z → Reads am_abs s c left t t' (Ok z)
-    unfolding am_abs
-    abs_done {k} gap x q f =
-        over_done operandᵏ 1 optional_suffix a expression_solid.quieted d e (reads_leaf left b) suffix_quiet x q k.at.0
-        (λ l. low_first (low_expression gap l)) f
+pub abs_done : {s : List ℕ} {c : Cursor} {k : Skip} → Skips trivia s c.at.0 c.met k → {left : ℕ} {t t₁ : List ℕ} {d : Cursor} → Reads expression s c left t t₁ (Ok d)
+    → {t₂ : List ℕ} {r₂ : Read} → Leafs optional_suffix s d t₁ t₂ r₂ → {x : Cursor} → r₂ ≡ Ok x → {t' : List ℕ} {z : Cursor}
+    → Finished operandᵏ 1 c k.at.0 x t₂ t' z → Reads am_abs s c left t t' (Ok z)
+unfolding am_abs
+abs_done gap {left} a b q f = over_done a expression_solid.quieted refl (reads_leaf left b) suffix_quiet q (λ l. low_first (low_expression gap l)) f
 
 -- no `(` stands there: am_ind and am_outer_ind miss at once
 module _ {s : List ℕ} {c : Cursor} (left low : ℕ) (gap : Skips trivia s c.at.0 c.met (skip low c.met))
@@ -86,15 +67,15 @@ module _ {s : List ℕ} {c : Cursor} (left low : ℕ) (gap : Skips trivia s c.at
 
   ind_misses : Reads am_ind s c left t t (Err (Miss c.met))
   unfolding am_ind
-  ind_misses = over_misses operandᵏ 5 optional_suffix (bracket_misses (expression ▸ char ")") left no_paren refl) refl
+  ind_misses = over_misses (inside_out no_paren refl) refl
 
   outer_misses : Reads am_outer_ind s c left t t (Err (Miss c.met))
   unfolding am_outer_ind
-  outer_misses = over_misses operandᵏ 4 empty (bracket_misses (expression ▸ optional_suffix ▸ char ")") left no_paren refl) refl
+  outer_misses = over_misses (inside_out no_paren refl) refl
 
   pub plain : {t' : List ℕ} {r : Read} → Reads am_abs s c left t t' r → Reads addressed s c left t t' r
   unfolding addressed
-  plain a = else_miss ind_misses (am_outer_ind or am_abs) c.met refl (else_miss outer_misses am_abs c.met refl a)
+  plain a = else_miss ind_misses refl refl (else_miss outer_misses refl refl a)
 
 -- In parentheses -------------------------------------------------------------
 
@@ -146,14 +127,14 @@ module _ {s : List ℕ} {c : Cursor} {k : Skip} (gap : Skips trivia s c.at.0 c.m
   open_byte : first (drop k.at.0 s) ≡ some 40
   open_byte = byte_first 40 (drop k.at.0 s) stands
 
-  inside_deep : r₁ ≡ Err Deep → Reads addressed s c left t t₁ r₁
+  opened_deep : r₁ ≡ Err Deep → Reads addressed s c left t t₁ r₁
   unfolding addressed am_ind
-  inside_deep e =
+  opened_deep e =
       let h : IsErr r₁ = ap is_err e in
-      else_first (over_misses operandᵏ 5 optional_suffix (behind_misses a (char ")") h) h) (am_outer_ind or am_abs) λ x q. miss_deep x (sym q ∙ e)
+      else_first (over_misses (behind_misses a _ h) h) λ x q. miss_deep x (sym q ∙ e)
 
-  inside_misses : (m : Bool) → r₁ ≡ Err (Miss m) → Reads addressed s c left t t₁ r₁
-  inside_misses m e =
+  opened_misses : (m : Bool) → r₁ ≡ Err (Miss m) → Reads addressed s c left t t₁ r₁
+  opened_misses m e =
       record {
         reading = λ l.
             let o = scan (full s) (bracket trivia 40 expression) l (here s c.at.0) in
@@ -162,26 +143,29 @@ module _ {s : List ℕ} {c : Cursor} {k : Skip} (gap : Skips trivia s c.at.0 c.m
       }
 
   -- too deep, or no expression
-  pub inside_out : IsErr r₁ → Reads addressed s c left t t₁ r₁
-  inside_out h = go r₁ refl
+  pub opened_out : IsErr r₁ → Reads addressed s c left t t₁ r₁
+  opened_out h = go r₁ refl
     where
       go : (r : Read) → r₁ ≡ r → Reads addressed s c left t t₁ r₁
       go (Ok d) e = absurd (not_got e h)
-      go (Err (Miss m)) e = inside_misses m e
-      go (Err Deep) e = inside_deep e
+      go (Err (Miss m)) e = opened_misses m e
+      go (Err Deep) e = opened_deep e
 
   module _ (d : Cursor) (e : r₁ ≡ Ok d) {t₂ : List ℕ} {r₂ : Read} (b : Leafs (closing_of false) s d t₁ t₂ r₂) where
     -- `)` follows
-    pub indirect : (x : Cursor) → r₂ ≡ Ok x → {t₃ : List ℕ} {r₃ : Read} → Leafs optional_suffix s x t₂ t₃ r₃ → (y : Cursor) → r₃ ≡ Ok y
+    pub indirect : {x : Cursor} → r₂ ≡ Ok x → {t₃ : List ℕ} {r₃ : Read} → Leafs optional_suffix s x t₂ t₃ r₃ → {y : Cursor} → r₃ ≡ Ok y
         → {t' : List ℕ} {z : Cursor} → Finished operandᵏ 5 c k.at.0 y t₃ t' z → Reads addressed s c left t t' (Ok z)
     unfolding addressed am_ind closing_of
-    indirect x q i y w {t'} {z} f =
-        else_first (over_done operandᵏ 5 optional_suffix (behind_goes a (char ")") opened_solid.quieted d e b) closed_quiet x q (reads_leaf left i)
-        suffix_quiet y w k.at.0 (λ l. first_bracket 40 (expression ▸ char ")") closing_quiet gap l) f)
-        (am_outer_ind or am_abs) λ m. got_miss z m
+    indirect q i w {z = z} f =
+        else_first (over_done (behind_goes a _ opened_solid.quieted e b) closed_quiet q (reads_leaf left i)
+        suffix_quiet w (λ l. first_bracket 40 (expression ▸ char ")") closing_quiet gap l) f)
+        λ m. got_miss z m
 
     -- `)` does not follow
-    module _ (m : Bool) (q : r₂ ≡ Err (Miss m)) where
+    module _ {z : Stop Bool} {m : Bool} (is : r₂ ≡ Err z) (n : z ≡ Miss m) where
+      missed : r₂ ≡ Err (Miss m)
+      missed = is ∙ ap Err n
+
       retried : {t' : List ℕ} {r : Read} → Reads tried s c left t t' r → Reads addressed s c left t t' r
       unfolding closing_of
       retried i =
@@ -190,7 +174,7 @@ module _ {s : List ℕ} {c : Cursor} {k : Skip} (gap : Skips trivia s c.at.0 c.m
                 let o = scan (full s) (bracket trivia 40 expression) l (here s c.at.0) in
                 let x = found (l + left) c.met c.count.0 o d (sym e ∙ (a.reading l).agrees.answer) in
                 let p = scan (full s) (char ")") (suc l) (here s d.at.0) in
-                let y = lost (l + left) d.met d.count.0 p m (sym q ∙ (b.reading (suc l) (l + left)).agrees.answer) in
+                let y = lost (l + left) d.met d.count.0 p m (sym missed ∙ (b.reading (suc l) (l + left)).agrees.answer) in
                 let place = found_here s (lies s (bracket trivia 40 expression) opened_solid.quieted l c.at.0) x in
                 reading_is (closing_fails gap open_byte l x.v (here s d.at.0) x.b y.b x.k y.k place y.is) (i.reading l);
           }
@@ -199,19 +183,19 @@ module _ {s : List ℕ} {c : Cursor} {k : Skip} (gap : Skips trivia s c.at.0 c.m
         tried_inside : Reads (bracket trivia 40 (expression ▸ (never (char ")") ▸ (optional_suffix ▸ char ")")))) s c left t t₃ r₃
         unfolding closing_of
         tried_inside =
-            behind_goes a (never (char ")") ▸ (optional_suffix ▸ char ")")) opened_solid.quieted d e
+            behind_goes a _ opened_solid.quieted e
             (record {
-              reading = λ l lim. seq_got (never_miss (b.reading l lim) m q) (optional_suffix ▸ char ")") (char_solid false 41).quieted
+              reading = λ l lim. seq_got (never_miss (b.reading l lim) m missed) (optional_suffix ▸ char ")") (char_solid false 41).quieted
                   (cursor d.at.0 d.count.0 m) refl (i.reading l lim);
             })
 
         pub outer_lacks : IsErr r₃ → Reads addressed s c left t t₃ r₃
-        outer_lacks h = retried (over_misses operandᵏ 4 empty tried_inside h)
+        outer_lacks h = retried (over_misses tried_inside h)
 
-        pub outer_done : (y : Cursor) → r₃ ≡ Ok y → {t' : List ℕ} {z : Cursor} → Finished operandᵏ 4 c k.at.0 y t₃ t' z
+        pub outer_done : {y : Cursor} → r₃ ≡ Ok y → {t' : List ℕ} {z : Cursor} → Finished operandᵏ 4 c k.at.0 y t₃ t' z
             → Reads addressed s c left t t' (Ok z)
-        outer_done y w f =
-            retried (over_done operandᵏ 4 empty tried_inside tried_quiet y w (reads_empty s y left t₃) tt y refl k.at.0
+        outer_done {y} w f =
+            retried (over_done tried_inside tried_quiet w (reads_empty s y left t₃) tt refl
             (λ l. first_bracket 40 (expression ▸ (never (char ")") ▸ (optional_suffix ▸ char ")"))) trying_quiet gap l) f)
 
 -- The whole ------------------------------------------------------------------
@@ -234,25 +218,16 @@ first_noted o (fits v q d j) g b k e = go (g v q) e
 first_noted o (fails d j) g b k e = let z : b ≡ o || d = cc in z ∙ two o d ∙ ap (◌|| o) (sym z)
 
 module _ {s : List ℕ} {c : Cursor} {left : ℕ} {t t₁ : List ℕ} {r₁ : Read} (a : Reads am_imm s c left t t₁ r₁) where
-  pub operand_imm : ((m : Bool) → r₁ ≡ Err (Miss m) → ⊥) → Reads operand s c left t t₁ r₁
-  unfolding operand addressed
-  operand_imm h = else_first a addressed h
-
-  pub operand_other : (m : Bool) → r₁ ≡ Err (Miss m) → {t' : List ℕ} {r : Read} → Reads addressed s (cursor c.at.0 c.count.0 m) left t₁ t' r
-      → Reads operand s c left t t' r
-  unfolding operand addressed
-  operand_other m e b = else_miss a addressed m e b
-
   -- the trivia is noted, and need not be read again
-  pub imm_gap : {k : Skip} → Skips trivia s c.at.0 c.met k → (m : Bool) → r₁ ≡ Err (Miss m) → Skips trivia s c.at.0 m (skip k.at.0 m)
+  pub imm_gap : {k : Skip} → Skips trivia s c.at.0 c.met k → {z : Stop Bool} {m : Bool} → r₁ ≡ Err z → z ≡ Miss m → Skips trivia s c.at.0 m (skip k.at.0 m)
   unfolding am_imm
-  imm_gap {k} gap m e =
+  imm_gap {k} gap {m = m} e n =
       let i = c.at.0 in
       let rest : Rows → Input → Summary Rows =
       λ u q. thenˢ (scan (full s) expression 0 q) λ v r. fits (under operandᵏ 2 i (first_low u) r.at (u ++ v)) r false 0 in
       let mark : Input → Summary Rows =
       λ q. thenˢ (scan (full s) (byte "#") 0 q) λ v r. fits (under charᵏ 35 i q.at r.at v) r false 0 in
-      let y = lost (0 + left) c.met c.count.0 (scan (full s) am_imm 0 (here s i)) m (sym e ∙ (a.reading 0).agrees.answer) in
+      let y = lost (0 + left) c.met c.count.0 (scan (full s) am_imm 0 (here s i)) m (sym (e ∙ ap Err n) ∙ (a.reading 0).agrees.answer) in
       let same : scan (full s) am_imm 0 (here s i) ≡ thenˢ (more gap.open? 0 (mark (here s k.at.0))) rest =
       ap (λ o. thenˢ (thenˢ o λ _ q. mark q) rest) (gap.is (full s) 0) in
       let z = first_noted gap.open? (mark (here s k.at.0)) rest y.b y.k (sym same ∙ y.is) in

@@ -1,7 +1,7 @@
 // What several programs print.
 #![tactic(auto)]
 
-use reading::Refusal;
+use reading::{HasNumber, Refusal};
 use std::io;
 use std::io::Write;
 

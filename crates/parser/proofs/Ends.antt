@@ -41,7 +41,7 @@ same_outcome a b c d g h i j = cc (a, b, c, d, g, h, i, j)
 filled_same : (ws u u₀ : List ℕ) → length u ≡ length u₀ → filled ws u ≡ filled ws u₀
 filled_same ws u u₀ h = ap (λ (m : ℕ). ws ++ zeros (m - length ws)) h
 
-module _ {s : List ℕ} {n : ℕ} {f : Bool} {l : ℕ} {r : Done} {t e q : List ℕ} (x : ReadSo s n f l r t e q) where
+module _ {s : List ℕ} {n : ℕ} {f : Bool} {l : ℕ} {r : Done} {t e q : List ℕ} (x : ReadSo s n f l r (tables t e q)) where
   abbrev this : Call
   this = call s n f l t e q
 
@@ -69,7 +69,7 @@ module _ {s : List ℕ} {n : ℕ} {f : Bool} {l : ℕ} {r : Done} {t e q : List 
       go (ok v p w) a i = pick (ltb l w.peak) v p w refl i
       go (err w) a i = let z : ◌≡◌ {A = ℕ} 0 1 = (let y = a.same in cc) in absurd (let y : ⊥ = omega arith in y)
 
-  pub deep_meets : IsErr r → {t' e' q' : List ℕ} → Cleared t e q t' e' q' → Meets this t' e' q' (Err (TooDeep l))
+  pub deep_meets : IsErr r → {t' e' q' : List ℕ} → Cleared (tables t e q) (tables t' e' q') → Meets this t' e' q' (Err (TooDeep l))
   deep_meets h c = record { outcome_is = rw (c.rows, c.errors, c.requests) (refused_so 5 l (deep_so (not_read h))) }
 
   -- read ---------------------------------------------------------------------
@@ -102,7 +102,7 @@ module _ {s : List ℕ} {n : ℕ} {f : Bool} {l : ℕ} {r : Done} {t e q : List 
     short_so : (k : Kind) → Before k this → Short k this → (g : ℕ) → g ≡ kept_of k → refusal this ≡ some (number k, g)
     short_so k b i g j = readable_rooms this readable ∙ lacks_rooms k this b i ∙ ap (λ (y : ℕ). some (number k, y)) (sym (j ∙ kept_is k))
 
-    module _ {t' e' q' : List ℕ} (c : Cleared t e q t' e' q') where
+    module _ {t' e' q' : List ℕ} (c : Cleared (tables t e q) (tables t' e' q')) where
       pub rows_meet : room row_width t < d.count.0 → Meets this t' e' q' (Err (NoRoomForRows d.count.0))
       rows_meet i =
           record { outcome_is = rw (c.rows, c.errors, c.requests) (refused_so 6 d.count.0 (short_so rows tt (omega (arith, kept_is rows)) d.count.0 refl)) }
@@ -126,15 +126,16 @@ module _ {s : List ℕ} {n : ℕ} {f : Bool} {l : ℕ} {r : Done} {t e q : List 
     nothing : (w : ℕ) (u : List ℕ) → Holds w u []
     nothing w u = record { word = λ i g k. absurd (let z : ⊥ = omega arith in z) }
 
+    low : (state_after (written s n f)).peak ≤ l
+    unfolding state_after
+    low = subst (λ (o : Reply Rows). (state_after o).peak ≤ l) (sym seen.is) seen.low
+
     held_rows : HoldsRows x.draft (rows_of (reading this))
     unfolding state_after rows_read
     held_rows =
-        let y : HoldsRows x.draft (rows_read (written s n f)) = x.acts.rows (low_so (written s n f) seen.is) [] refl (nothing row_width x.t₀) in
+        let y : HoldsRows x.draft (rows_read (written s n f)) = x.acts.rows low [] refl (nothing row_width x.t₀) in
         turn (written s n f) y
       where
-        low_so : (o : Reply Rows) → o ≡ ok seen.v seen.q seen.w → (state_after o).peak ≤ l
-        low_so o i = subst (λ (y : Reply Rows). (state_after y).peak ≤ l) (sym i) seen.low
-
         turn : (o : Reply Rows) → HoldsRows x.draft (rows_read o) → HoldsRows x.draft (rows_of o)
         turn (ok v p w) y = y
         turn (err w) y = y
@@ -143,12 +144,9 @@ module _ {s : List ℕ} {n : ℕ} {f : Bool} {l : ℕ} {r : Done} {t e q : List 
     unfolding state_after
     held_log =
         let y : Logged (tables x.draft e q) (log (state_after (written s n f))) =
-        x.acts.logged (low_so (written s n f) seen.is) (record { errors = nothing error_width x.e₀; requests = nothing request_width x.q₀ }) in
+        x.acts.logged low (record { errors = nothing error_width x.e₀; requests = nothing request_width x.q₀ }) in
         turn (written s n f) y
       where
-        low_so : (o : Reply Rows) → o ≡ ok seen.v seen.q seen.w → (state_after o).peak ≤ l
-        low_so o i = subst (λ (y : Reply Rows). (state_after y).peak ≤ l) (sym i) seen.low
-
         turn : (o : Reply Rows) → Logged (tables x.draft e q) (log (state_after o)) → Logged (tables x.draft e q) (log (state_of o))
         turn (ok v p w) y = y
         turn (err w) y = y
@@ -256,7 +254,7 @@ module _ (s : List ℕ) (n : ℕ) (f : Bool) (l : ℕ) (t e q : List ℕ) where
 -- What the reader of a source file has done, from the start ----------------------------------------------------
 
 pub does_so : (s : List ℕ) (n : ℕ) (f : Bool) (l : ℕ) {r : Done} (t₀ e₀ q₀ t e q : List ℕ) → length s ≤ max_text → none ≡ first_high 0 s → n ≤ max_scope → l ≤ max_level
-    → Lined source_file s (cursor 0 0 false) (record { scope = n; swallow = f; errors = 0; requests = 0 }) l (tables t₀ e₀ q₀) (tables t e q) r → ReadSo s n f l r t e q
+    → Lined source_file s (cursor 0 0 false) (record { scope = n; swallow = f; errors = 0; requests = 0 }) l (tables t₀ e₀ q₀) (tables t e q) r → ReadSo s n f l r (tables t e q)
 unfolding written rules
 does_so s n f l {r} t₀ e₀ q₀ t e q a b c d x =
     record {
@@ -284,3 +282,7 @@ meets_lent s n f l t t₀ e e₀ q q₀ t' e' q' r a b c h i j k m =
         (record { answer = told r; scope = end_scope (call s n f l t e q) r; swallow = end_swallow (call s n f l t e q) r; rows = t'; errors = e'; requests = q' })
     same (Ok x) = refl
     same (Err x) = refl
+
+-- the tables as they come back out of the struct
+pub meets_back : {c : Call} {t e q : List ℕ} {r : Answer} → Meets c t e q r → (t' e' q' : List ℕ) → t' ≡ t → e' ≡ e → q' ≡ q → Meets c t' e' q' r
+meets_back m t' e' q' a b d = rw (a, b, d) m

@@ -6,8 +6,10 @@ use Rattle.reading.specs.Table.{Answer as Answered, answered, refused, first_hig
 use Rattle.reading.specs.Outcome.{Call, Counts, outcome}
 use Rattle.line.specs.Lines.{lined}
 use Rattle.cursor.specs.declared.Cursor.{Cursor}
-use Rattle.state.specs.Acts.{tables, log, Acts}
+use Rattle.state.specs.Acts.{Tables, tables, log, Acts}
 use Rattle.state.specs.declared.State.{State as Kept}
+use Rattle.state.specs.declared.Tables.{Tables as Lent}
+use Rattle.state.specs.Lent.{Same}
 use Rattle.state.specs.Done.{Done}
 use Rattle.parser.specs.Refusal.{number_of, gives_of}
 use Rattle.parser.specs.declared.Reading.{Reading}
@@ -36,13 +38,18 @@ call s n f l t e q = record { text = s; scope = n; swallow = f; level = l; rows 
 pub record Meets (c : Call) (t e q : List ℕ) (r : Answer) : Type 0 where
   pub outcome_is : record { answer = told r; scope = end_scope c r; swallow = end_swallow c r; rows = t; errors = e; requests = q } ≡ outcome c
 
-pub record Cleared (t e q t' e' q' : List ℕ) : Type 0 where
-  pub rows : t' ≡ filled [] t
-  pub errors : e' ≡ filled [] e
-  pub requests : q' ≡ filled [] q
+pub record Cleared (T T' : Tables) : Type 0 where
+  pub rows : T'.rows ≡ filled [] T.rows
+  pub errors : T'.errors ≡ filled [] T.errors
+  pub requests : T'.requests ≡ filled [] T.requests
+
+-- what is done behind the reading, in the tables that it was lent
+pub record Settles (s : List ℕ) (n : ℕ) (f : Bool) (l : ℕ) (T T' : Lent) (r : Answer) : Type 0 where
+  pub same : Same T T'
+  pub meets : Meets (call s n f l T.rows.now T.errors.now T.requests.now) T'.rows.now T'.errors.now T'.requests.now r
 
 -- nothing of 1 to 4 is refused, and this is what reading came to, with these tables: the row table is a draft with the lines of its rows
-pub record ReadSo (s : List ℕ) (n : ℕ) (f : Bool) (l : ℕ) (r : Done) (t e q : List ℕ) : Type 0 where
+pub record ReadSo (s : List ℕ) (n : ℕ) (f : Bool) (l : ℕ) (r : Done) (T : Tables) : Type 0 where
   pub short : length s ≤ max_text
   pub plain : first_high 0 s ≡ none
   pub scope : n ≤ max_scope
@@ -51,5 +58,5 @@ pub record ReadSo (s : List ℕ) (n : ℕ) (f : Bool) (l : ℕ) (r : Done) (t e 
   pub e₀ : List ℕ
   pub q₀ : List ℕ
   pub draft : List ℕ
-  pub lines : (d : Cursor) (x : Kept) → r ≡ Ok (d, x) → t ≡ lined s draft d.count.0
-  pub acts : Acts (written s n f) l 0 [] (log (start n f)) (tables t₀ e₀ q₀) (tables draft e q) r
+  pub lines : (d : Cursor) (x : Kept) → r ≡ Ok (d, x) → T.rows ≡ lined s draft d.count.0
+  pub acts : Acts (written s n f) l 0 [] (log (start n f)) (tables t₀ e₀ q₀) (tables draft T.errors T.requests) r

@@ -2,7 +2,7 @@
 ghost use Rattle.std.specs.Prelude.{◌≡◌};
 ghost use Rattle.parser.specs.Refusal.{number_of, gives_of};
 
-use reading::Refusal;
+use reading::{HasNumber, Refusal};
 
 // How long the text is; where its first high byte stands; the scope number, the level limit or how deep a reading may go; how many records it has.
 #[derive(Clone, Copy, Debug, PartialEq, Eq)]
@@ -17,10 +17,8 @@ pub enum ReadError {
     NoRoomForRequests(usize),
 }
 
-impl Refusal for ReadError {
+impl HasNumber for ReadError {
     ghost number = { number_of };
-
-    ghost gives = { gives_of };
 
     fn number(&self) -> u32 {
         match self {
@@ -34,6 +32,10 @@ impl Refusal for ReadError {
             ReadError::NoRoomForRequests(_) => 8,
         }
     }
+}
+
+impl Refusal for ReadError {
+    ghost gives = { gives_of };
 
     fn gives(&self) -> usize {
         match *self {

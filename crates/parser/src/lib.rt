@@ -2,13 +2,14 @@
 #![tactic(auto)]
 
 ghost use Rattle.std.specs.Prelude.{Bool, List, ℕ, ◌≤◌};
-ghost use Rattle.parser.specs.Answers.{call, Meets, Cleared, ReadSo};
+ghost use Rattle.state.specs.Lent.{seen, Same};
+ghost use Rattle.parser.specs.Answers.{call, Meets, Cleared, ReadSo, Settles};
 
 pub mod error;
 
 use error::ReadError;
 use reading::{MAX_LEVEL, MAX_SCOPE, MAX_TEXT};
-use state::{Done, State};
+use state::{Done, State, Tables};
 
 // How many records there are of each kind, and the end state.
 #[derive(Clone, Copy)]
@@ -20,12 +21,12 @@ pub struct Reading {
     pub swallow: bool,
 }
 
-fn clear(rows: &mut [u32], errors: &mut [u32], requests: &mut [u32])
-    ensures { Cleared rows.old errors.old requests.old rows.new errors.new requests.new }
+fn clear(tables: &mut Tables)
+    ensures { Same tables.old tables.new × Cleared (seen tables.old) (seen tables.new) }
 {
-    table::zero(rows, 0);
-    table::zero(errors, 0);
-    table::zero(requests, 0);
+    table::zero(tables.rows, 0);
+    table::zero(tables.errors, 0);
+    table::zero(tables.requests, 0);
 }
 
 // Behind the reading: too deep, too little room, or zeros behind the last records.
@@ -35,35 +36,33 @@ fn settle(
     swallow: bool,
     level: usize,
     done: Done,
-    rows: &mut [u32],
-    errors: &mut [u32],
-    requests: &mut [u32],
+    tables: &mut Tables,
 ) -> Result<Reading, ReadError>
-    requires { ReadSo text.now scope swallow level done rows.old errors.old requests.old }
-    ensures { Meets (call text.now scope swallow level rows.old errors.old requests.old) rows.new errors.new requests.new result }
+    requires { ReadSo text.now scope swallow level done (seen tables.old) }
+    ensures { Settles text.now scope swallow level tables.old tables.new result }
 {
     let Ok((c, st)) = done else {
-        clear(rows, errors, requests);
+        clear(tables);
         return Err(ReadError::TooDeep(level));
     };
     let n = c.count.0;
     let e = st.errors;
     let q = st.requests;
-    if rows.len() / table::ROW < n {
-        clear(rows, errors, requests);
+    if tables.rows.len() / table::ROW < n {
+        clear(tables);
         return Err(ReadError::NoRoomForRows(n));
     }
-    if errors.len() / table::ERROR < e {
-        clear(rows, errors, requests);
+    if tables.errors.len() / table::ERROR < e {
+        clear(tables);
         return Err(ReadError::NoRoomForErrors(e));
     }
-    if requests.len() / table::REQUEST < q {
-        clear(rows, errors, requests);
+    if tables.requests.len() / table::REQUEST < q {
+        clear(tables);
         return Err(ReadError::NoRoomForRequests(q));
     }
-    table::zero(rows, n * table::ROW);
-    table::zero(errors, e * table::ERROR);
-    table::zero(requests, q * table::REQUEST);
+    table::zero(tables.rows, n * table::ROW);
+    table::zero(tables.errors, e * table::ERROR);
+    table::zero(tables.requests, q * table::REQUEST);
     Ok(Reading {
         rows: n,
         errors: e,
@@ -103,6 +102,11 @@ pub fn read(
         errors: 0,
         requests: 0,
     };
-    let done = statement::source_file(text, start, level, rows, errors, requests);
-    settle(text, scope, swallow, level, done, rows, errors, requests)
+    let mut tables = Tables {
+        rows,
+        errors,
+        requests,
+    };
+    let done = statement::source_file(text, start, level, &mut tables);
+    settle(text, scope, swallow, level, done, &mut tables)
 }

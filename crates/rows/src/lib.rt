@@ -10,7 +10,7 @@ ghost use Rattle.rows.specs.Answers.{told_count, told_tops, listed, number_of, g
 ghost use Rattle.rows.specs.declared.TopsError.TheVariants.{NoSubtree};
 ghost use Rattle.rows.specs.Tops.{top_rows, how_many, tops_listed};
 
-use reading::Refusal;
+use reading::{HasNumber, Refusal};
 use table::{NoSubtree, Subtree};
 
 // A row table, and how many of its rows are ahead: a walk goes from the last of them to the first.
@@ -92,10 +92,8 @@ impl From<NoSubtree> for TopsError {
     }
 }
 
-impl Refusal for TopsError {
+impl HasNumber for TopsError {
     ghost number = { number_of };
-
-    ghost gives = { gives_of };
 
     fn number(&self) -> u32 {
         match self {
@@ -103,6 +101,10 @@ impl Refusal for TopsError {
             TopsError::NoRoom(_) => 6,
         }
     }
+}
+
+impl Refusal for TopsError {
+    ghost gives = { gives_of };
 
     fn gives(&self) -> usize {
         match self {

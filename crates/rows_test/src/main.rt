@@ -1,11 +1,11 @@
 // Reads a pass table from standard input and prints its top rows, first to last, as the import loop walks them. Then what such a walk refuses.
 #![tactic(auto)]
 
-use reading::Refusal;
+use reading::{HasNumber, Refusal};
 use rows::TopsError;
 use std::io;
 use std::io::{BufWriter, Read, Write};
-use table::{ERROR, REQUEST, ROW, column};
+use table::{ERROR, REQUEST, ROW};
 
 // The longest input; what lies behind it is not read.
 const LONGEST: u64 = 4096;
@@ -39,24 +39,16 @@ fn whole(out: &mut impl Write, words: &[u32], count: usize) -> io::Result<()> {
     }
 }
 
+// So many top rows; that the table holds so many only the definition of the answer says.
 fn lines(out: &mut impl Write, words: &[u32], roots: &[usize], n: usize) -> io::Result<()> {
+    let (rows, _) = words.as_chunks::<ROW>();
     for (i, &root) in roots.iter().take(n).enumerate() {
         write!(out, "row {}", i + 1)?;
-        line(out, words, root)?;
+        if let Some([kind, size, _, low, high, _, _]) = rows.get(root) {
+            writeln!(out, ": kind {kind}, bytes {low}..{high}, rows {size}")?;
+        }
     }
     Ok(())
-}
-
-fn line(out: &mut impl Write, words: &[u32], root: usize) -> io::Result<()> {
-    if words.len() / ROW <= root {
-        return Ok(());
-    }
-    let i = root * ROW;
-    let kind = words[i + column::KIND];
-    let low = words[i + column::LOW];
-    let high = words[i + column::HIGH];
-    let size = words[i + column::SIZE];
-    writeln!(out, ": kind {kind}, bytes {low}..{high}, rows {size}")
 }
 
 // Into three words that are not zero: too many top rows, too many rows, none, two top rows, and a count inside the second one.

@@ -27,9 +27,6 @@ pub record Common (a b x y : ℕ) : Type 0 where
 common_same : (a b : ℕ) → Common a b a b
 common_same a b = record { left = λ d h k. h; right = λ d h k. k; fst = λ d h k. h; snd = λ d h k. k }
 
-pub common_turned : (a b : ℕ) → Common a b b a
-common_turned a b = record { left = λ d h k. k; right = λ d h k. h; fst = λ d h k. k; snd = λ d h k. h }
-
 pub common_step : {a b x y : ℕ} → Common a b x y → Common a b y (x % y)
 common_step u =
     record {

@@ -5,3 +5,4 @@ pub mod Order
 pub mod Tests
 pub mod Words
 pub mod Claims
+pub mod Kept

@@ -1,17 +1,19 @@
 -- The three largest, one text after another: of the texts in order the front alone is kept.
 use mathlib.Core.Path.{◌≡◌, refl, ap, sym, subst, ◌∙◌}
-use mathlib.Core.Bool.{Bool, true, false, not, ◌||◌, cond, and-false, or-false, or-true, true≢false}
-use mathlib.Core.List.{List, [], ◌∷◌}
-use Prim.Native.Nat.{ℕ, zero, suc, ◌+◌, min, ◌≤◌, ◌<◌}
+use mathlib.Core.Bool.{Bool, true, false, not, cond, and-false, or-false}
+use mathlib.Core.List.{List, [], ◌∷◌, ◌++◌}
+use Prim.Native.Nat.{ℕ, zero, suc, ◌+◌, ◌-◌, ◌≤◌, ◌<◌}
 use native.Mathlib.Omega.{arith}
-use borrow.Author.Tests.{lt-ltb, le-ltb}
-use lib.Dec.{ltb}
-use lib.ListN.{length, take, get_or, length-take}
-use lib.Seq.{take-take}
+use borrow.Author.Tests.{le-ltb}
+use borrow.Rule.Slice.PartMut.{mid_of, put_mid}
+use lib.ListN.{length, take, set}
+use Rattle.std.specs.Prelude.{drop, IfSome, Option as Found, Some, None}
+use Rattle.std.specs.List.{position, position_or_len}
+use Rattle.std.proofs.lemmas.Grind.{common_steps}
+use Rattle.std.proofs.lemmas.List.Sums.{prefix_len-le-length}
 use Rattle.share.specs.Claims.{All, nothing as none, another as more}
-use Rattle.share.specs.Shares.{larger, ahead, placed, ranked}
-use Rattle.share.specs.Steps.{Before, largest_of, With}
-use Rattle.share.specs.declared.Largest.{Largest}
+use Rattle.share.specs.Shares.{texts, larger, ahead, placed, ranked}
+use Rattle.share.specs.Steps.{Before, front, places, largest_of, goes_to, Inside, With}
 
 -- Where a text is placed ------------------------------------------------------
 
@@ -19,18 +21,6 @@ use Rattle.share.specs.declared.Largest.{Largest}
 later : (w : List ℕ) (i j : ℕ) → j < i → ahead w i j ≡ larger w i j
 unfolding ahead
 later w i j h = rw (le-ltb i j (omega arith), and-false (not (larger w j i))) (or-false (larger w i j))
-
--- what is not among the first n stays outside them
-take_placed : (w : List ℕ) (i n : ℕ) (js : List ℕ) → take n (placed w i js) ≡ take n (placed w i (take n js))
-unfolding placed
-take_placed w i zero js = refl
-take_placed w i (suc n) [] = refl
-take_placed w i (suc n) (j ∷ js) = go (ahead w i j) (take_placed w i n js)
-  where
-    go : (b : Bool) → take n (placed w i js) ≡ take n (placed w i (take n js))
-        → take (suc n) (cond b (i ∷ j ∷ js) (j ∷ placed w i js)) ≡ take (suc n) (cond b (i ∷ j ∷ take n js) (j ∷ placed w i (take n js)))
-    go true e = ap (λ (ks : List ℕ). i ∷ ks) (sym (take-take n (suc n) (j ∷ js) (omega arith)))
-    go false e = ap (λ (ks : List ℕ). j ∷ ks) e
 
 placed_length : (w : List ℕ) (i : ℕ) (js : List ℕ) → length (placed w i js) ≡ suc (length js)
 unfolding placed
@@ -71,133 +61,97 @@ take_all zero js b = none
 take_all (suc n) [] none = none
 take_all (suc n) (j ∷ js) (more h b) = more h (take_all n js b)
 
--- an index that is there is before i, and an absent one is 0
-index_most : {i : ℕ} (js : List ℕ) → Before i js → (k : ℕ) → get_or js k 0 ≤ i
-index_most [] none k = omega arith
-index_most (j ∷ js) (more h b) zero = omega arith
-index_most (j ∷ js) (more h b) (suc k) = index_most js b k
+-- One more among the largest --------------------------------------------------
 
--- One more among three --------------------------------------------------------
+-- x before the k-th of a list
+abbrev put : {A : Type 0} → ℕ → A → List A → List A
+put k x xs = take k xs ++ x ∷ drop k xs
+
+take_places : (n : ℕ) (js : List ℕ) → take n (places (suc n) js) ≡ places n js
+take_places zero js = refl
+take_places (suc n) js = ap (λ (ps : List (Found ℕ)). front js ∷ ps) (take_places n (drop 1 js))
+
+-- text i stands before the first place that it goes to
+module _ (w : List ℕ) (i : ℕ) where
+  abbrev place : List (Found ℕ) → ℕ
+  place = position_or_len (goes_to w i)
+
+  put_places : (n : ℕ) (js : List ℕ) → Before i js → places n (placed w i js) ≡ take n (put (place (places n js)) (Some i) (places n js))
+  unfolding placed
+  put_places zero js b = refl
+  put_places (suc n) [] none = ap (λ (ps : List (Found ℕ)). Some i ∷ ps) (sym (take_places n []))
+  put_places (suc n) (j ∷ js) (more h b) = rw (later w i j h) (go (larger w i j) (put_places n js b))
+    where
+      go : (x : Bool) → places n (placed w i js) ≡ take n (put (place (places n js)) (Some i) (places n js))
+          → places (suc n) (cond x (i ∷ j ∷ js) (j ∷ placed w i js)) ≡ take (suc n) (put (cond (not x) (1 + place (places n js)) 0) (Some i) (Some j ∷ places n js))
+      go true e = ap (λ (ps : List (Found ℕ)). Some i ∷ ps) (sym (take_places n (j ∷ js)))
+      go false e =
+          subst (λ (k : ℕ). places (suc n) (j ∷ placed w i js) ≡ take (suc n) (put k (Some i) (Some j ∷ places n js)))
+          (let f : suc (place (places n js)) ≡ 1 + place (places n js) = omega arith in f) (ap (λ (ps : List (Found ℕ)). Some j ∷ ps) e)
+
+-- what the code does with three places
+rotated : (a b c x : Found ℕ) (k : ℕ) (r : List (Found ℕ)) → k < 3
+    → (let m = mid_of k (3 - k) (a ∷ b ∷ c ∷ []) in r ≡ drop (length m - 1) m ++ take (length m - 1) m)
+    → set (put_mid k (3 - k) (a ∷ b ∷ c ∷ []) r) k x ≡ take 3 (put k x (a ∷ b ∷ c ∷ []))
+rotated a b c x zero r h e = rw e refl
+rotated a b c x (suc zero) r h e = rw e refl
+rotated a b c x (suc (suc zero)) r h e = rw e refl
+rotated a b c x (suc (suc (suc k))) r h e = absurd (let f : ⊥ = omega arith in f)
 
 module _ (w : List ℕ) (i : ℕ) where
-  in_front : (j : ℕ) (js : List ℕ) → j < i → larger w i j ≡ true → placed w i (j ∷ js) ≡ i ∷ j ∷ js
-  unfolding placed
-  in_front j js h e = rw (later w i j h, e)
+  abbrev found : List (Found ℕ) → Found ℕ
+  found = position (goes_to w i)
 
-  behind : (j : ℕ) (js : List ℕ) → j < i → larger w i j ≡ false → placed w i (j ∷ js) ≡ j ∷ placed w i js
-  unfolding placed
-  behind j js h e = rw (later w i j h, e)
+  some_place : (ps : List (Found ℕ)) (k : ℕ) → found ps ≡ Some k → (k < length ps) × (place w i ps ≡ k)
+  some_place ps k e = (grind (arith, common_steps), grind (arith, common_steps))
 
-  abbrev of_four : ℕ → ℕ → ℕ → ℕ → Largest
-  of_four n a b c = record { count = n; first = a; second = b; third = c }
+  no_place : (ps : List (Found ℕ)) → found ps ≡ None → length ps ≤ place w i ps
+  no_place ps e = grind (arith, common_steps)
 
-  abbrev among : List ℕ → Largest
-  among js = largest_of (take 3 (placed w i js))
+  pub put_some : (ps r : List (Found ℕ)) (k : ℕ) → found ps ≡ Some k → (let m = mid_of k (3 - k) ps in r ≡ drop (length m - 1) m ++ take (length m - 1) m)
+      → With w i ps (set (put_mid k (3 - k) ps r) k (Some i))
+  put_some ps r k e h js q b =
+      subst
+      (λ (ps : List (Found ℕ)). found ps ≡ Some k → (let m = mid_of k (3 - k) ps in r ≡ drop (length m - 1) m ++ take (length m - 1) m)
+      → set (put_mid k (3 - k) ps r) k (Some i) ≡ largest_of (placed w i js))
+      (sym q) go e h
+    where
+      go : found (largest_of js) ≡ Some k
+          → (let m = mid_of k (3 - k) (largest_of js) in r ≡ drop (length m - 1) m ++ take (length m - 1) m)
+          → set (put_mid k (3 - k) (largest_of js) r) k (Some i) ≡ largest_of (placed w i js)
+      go e h =
+          let p = some_place (largest_of js) k e in
+          rotated _ _ _ (Some i) k r p.0 h ∙ ap (λ (n : ℕ). take 3 (put n (Some i) (largest_of js))) (sym p.1) ∙ sym (put_places w i 3 js b)
 
-  -- x, y and z are the answers whether i's share is larger than that of each of the three, and m is one more than there are
-  module _ (x y z : Bool) (m : ℕ) where
-    abbrev Asked : Largest → Type 0
-    Asked l = (x ≡ larger w i l.first) × (y ≡ larger w i l.second) × (z ≡ larger w i l.third) × (m ≡ min 3 (suc l.count))
-
-    first_place : (js : List ℕ) → length js ≤ 3 → Before i js → Asked (largest_of js) → ltb (length js) 1 || x ≡ true → of_four m i (get_or js 0 0) (get_or js 1 0) ≡ among js
-    unfolding placed
-    first_place [] l none u e = rw u.3
-    first_place (a ∷ []) l (more h _) u e = rw (in_front a [] h (sym u.0 ∙ e), u.3)
-    first_place (a ∷ b ∷ []) l (more h _) u e = rw (in_front a (b ∷ []) h (sym u.0 ∙ e), u.3)
-    first_place (a ∷ b ∷ c ∷ []) l (more h _) u e = rw (in_front a (b ∷ c ∷ []) h (sym u.0 ∙ e), u.3)
-    first_place (a ∷ b ∷ c ∷ d ∷ js) l k u e = absurd (let f : ⊥ = omega arith in f)
-
-    second_place : (js : List ℕ) → length js ≤ 3 → Before i js → Asked (largest_of js) → ltb (length js) 1 || x ≡ false → ltb (length js) 2 || y ≡ true
-        → of_four m (get_or js 0 0) i (get_or js 1 0) ≡ among js
-    unfolding placed
-    second_place [] l none u n e = absurd (true≢false n)
-    second_place (a ∷ []) l (more h _) u n e = rw (behind a [] h (sym u.0 ∙ n), u.3)
-    second_place (a ∷ b ∷ []) l (more h (more k _)) u n e = rw (behind a (b ∷ []) h (sym u.0 ∙ n), in_front b [] k (sym u.1 ∙ e), u.3)
-    second_place (a ∷ b ∷ c ∷ []) l (more h (more k _)) u n e = rw (behind a (b ∷ c ∷ []) h (sym u.0 ∙ n), in_front b (c ∷ []) k (sym u.1 ∙ e), u.3)
-    second_place (a ∷ b ∷ c ∷ d ∷ js) l k u n e = absurd (let f : ⊥ = omega arith in f)
-
-    third_place : (js : List ℕ) → length js ≤ 3 → Before i js → Asked (largest_of js)
-        → ltb (length js) 1 || x ≡ false → ltb (length js) 2 || y ≡ false → ltb (length js) 3 || z ≡ true
-        → of_four m (get_or js 0 0) (get_or js 1 0) i ≡ among js
-    unfolding placed
-    third_place [] l none u n o e = absurd (true≢false n)
-    third_place (a ∷ []) l k u n o e = absurd (true≢false o)
-    third_place (a ∷ b ∷ []) l (more h (more k _)) u n o e = rw (behind a (b ∷ []) h (sym u.0 ∙ n), behind b [] k (sym u.1 ∙ o), u.3)
-    third_place (a ∷ b ∷ c ∷ []) l (more h (more k (more g _))) u n o e =
-        rw (behind a (b ∷ c ∷ []) h (sym u.0 ∙ n), behind b (c ∷ []) k (sym u.1 ∙ o), in_front c [] g (sym u.2 ∙ e), u.3)
-    third_place (a ∷ b ∷ c ∷ d ∷ js) l k u n o e = absurd (let f : ⊥ = omega arith in f)
-
-    no_place : (js : List ℕ) → length js ≤ 3 → Before i js → Asked (largest_of js)
-        → ltb (length js) 1 || x ≡ false → ltb (length js) 2 || y ≡ false → ltb (length js) 3 || z ≡ false → largest_of js ≡ among js
-    unfolding placed
-    no_place [] l none u n o e = absurd (true≢false n)
-    no_place (a ∷ []) l k u n o e = absurd (true≢false o)
-    no_place (a ∷ b ∷ []) l k u n o e = absurd (true≢false e)
-    no_place (a ∷ b ∷ c ∷ []) l (more h (more k (more g _))) u n o e =
-        rw (behind a (b ∷ c ∷ []) h (sym u.0 ∙ n), behind b (c ∷ []) k (sym u.1 ∙ o), behind c [] g (sym u.2 ∙ e))
-    no_place (a ∷ b ∷ c ∷ d ∷ js) l k u n o e = absurd (let f : ⊥ = omega arith in f)
-
-    -- the same of four numbers, which are those of such a list
-    module _ (l : Largest) (u : Asked l) where
-      of_list : (r : Largest → Largest) (T : Largest → Type 0)
-          → ((js : List ℕ) → length js ≤ 3 → Before i js → Asked (largest_of js) → T (largest_of js) → r (largest_of js) ≡ among js) → T l → With w i l (r l)
-      of_list r T f t js e h b = subst (λ (k : Largest). Asked k → T k → r k ≡ among js) (sym e) (f js h b) u t
-
-      pub put_first : ltb l.count 1 || x ≡ true → With w i l (of_four m i l.first l.second)
-      put_first = of_list (λ k. of_four m i k.first k.second) (λ k. ltb k.count 1 || x ≡ true) first_place
-
-      pub put_second : ltb l.count 1 || x ≡ false → ltb l.count 2 || y ≡ true → With w i l (of_four m l.first i l.second)
-      put_second n e =
-          of_list (λ k. of_four m k.first i k.second) (λ k. (ltb k.count 1 || x ≡ false) × (ltb k.count 2 || y ≡ true))
-          (λ js h b v t. second_place js h b v t.0 t.1) (n, e)
-
-      pub put_third : ltb l.count 1 || x ≡ false → ltb l.count 2 || y ≡ false → ltb l.count 3 || z ≡ true → With w i l (of_four m l.first l.second i)
-      put_third n o e =
-          of_list (λ k. of_four m k.first k.second i)
-          (λ k. (ltb k.count 1 || x ≡ false) × (ltb k.count 2 || y ≡ false) × (ltb k.count 3 || z ≡ true))
-          (λ js h b v t. third_place js h b v t.0 t.1 t.2) (n, o, e)
-
-      pub put_none : ltb l.count 1 || x ≡ false → ltb l.count 2 || y ≡ false → ltb l.count 3 || z ≡ false → With w i l l
-      put_none n o e =
-          of_list (λ k. k) (λ k. (ltb k.count 1 || x ≡ false) × (ltb k.count 2 || y ≡ false) × (ltb k.count 3 || z ≡ false))
-          (λ js h b v t. no_place js h b v t.0 t.1 t.2) (n, o, e)
-
--- the code asks for a share only where there is one
-pub there_are_fewer : {n k : ℕ} (b : Bool) → n < k → ltb n k || b ≡ true
-there_are_fewer {n} {k} b h = rw (lt-ltb n k h)
-
-pub is_larger : (n k : ℕ) {x b : Bool} → x ≡ b → x ≡ true → ltb n k || b ≡ true
-is_larger n k {x} {b} e h = rw (sym e ∙ h) (or-true (ltb n k))
-
-pub is_not : {n k : ℕ} {x b : Bool} → k ≤ n → x ≡ b → x ≡ false → ltb n k || b ≡ false
-is_not {n} {k} {x} {b} h e f = rw (le-ltb n k h, sym e ∙ f)
+  pub put_none : (ps : List (Found ℕ)) → found ps ≡ None → With w i ps ps
+  put_none ps e js q b =
+      subst (λ (ps : List (Found ℕ)). found ps ≡ None → ps ≡ largest_of (placed w i js)) (sym q) go e
+    where
+      go : found (largest_of js) ≡ None → largest_of js ≡ largest_of (placed w i js)
+      go e =
+          let p : place w i (largest_of js) ≡ 3 = omega (arith, no_place (largest_of js) e, prefix_len-le-length (λ x. not (goes_to w i x)) (largest_of js)) in
+          ap (λ (n : ℕ). take 3 (put n (Some i) (largest_of js))) (sym p) ∙ sym (put_places w i 3 js b)
 
 -- Text after text -------------------------------------------------------------
 
+pub inside_places : (w : List ℕ) (i n : ℕ) (js : List ℕ) → i ≤ texts w → Before i js → Inside w (places n js)
+inside_places w i zero js h b k d l = absurd (let f : ⊥ = omega arith in f)
+inside_places w i (suc n) js h b zero d l = go js b
+  where
+    go : (js : List ℕ) → Before i js → IfSome (front js) (λ j. j < texts w)
+    go [] none = tt
+    go (j ∷ js) (more m _) = omega (arith, m, h)
+inside_places w i (suc n) [] h none (suc k) d l = inside_places w i n [] h none k d (omega arith)
+inside_places w i (suc n) (j ∷ js) h (more _ b) (suc k) d l = inside_places w i n js h b k d (omega arith)
+
 module _ (w : List ℕ) where
-  -- the three largest of the first i texts
-  pub record Held (i : ℕ) (l : Largest) : Type 0 where
-    pub same : l ≡ largest_of (take 3 (ranked w i))
-
-  pub held_none : Held 0 (record { count = 0; first = 0; second = 0; third = 0 })
+  pub none_held : None ∷ None ∷ None ∷ [] ≡ largest_of (ranked w 0)
   unfolding ranked
-  held_none = record { same = refl }
+  none_held = refl
 
-  most : (i k : ℕ) → get_or (take 3 (ranked w i)) k 0 ≤ i
-  most i = index_most (take 3 (ranked w i)) (take_all 3 (ranked w i) (ranked_before w i))
+  pub held_inside : (i n : ℕ) (ps : List (Found ℕ)) → i < n → n ≤ texts w → ps ≡ largest_of (ranked w i) → (i < texts w) × Inside w ps
+  held_inside i n ps l h e = (omega (arith, h, l), subst (λ (ps : List (Found ℕ)). Inside w ps) (sym e) (inside_places w i 3 (ranked w i) (omega (arith, h, l)) (ranked_before w i)))
 
-  -- their indexes are indexes of texts
-  pub held_inside : (i : ℕ) (l : Largest) → Held i l → (l.first ≤ i) × (l.second ≤ i) × (l.third ≤ i)
-  held_inside i l u = subst (λ (x : Largest). (x.first ≤ i) × (x.second ≤ i) × (x.third ≤ i)) (sym u.same) (most i 0, most i 1, most i 2)
-
-  pub held_next : (i : ℕ) (l r : Largest) → Held i l → With w i l r → Held (i + 1) r
+  pub held_next : (i : ℕ) (ps qs : List (Found ℕ)) → ps ≡ largest_of (ranked w i) → With w i ps qs → qs ≡ largest_of (ranked w (i + 1))
   unfolding ranked
-  held_next i l r u f =
-      record {
-        same =
-            f (take 3 (ranked w i)) u.same (omega (arith, length-take 3 (ranked w i))) (take_all 3 (ranked w i) (ranked_before w i))
-            ∙ ap largest_of (sym (take_placed w i 3 (ranked w i))) ∙ ap (λ (k : ℕ). largest_of (take 3 (ranked w k))) (let e : suc i ≡ i + 1 = omega arith in e);
-      }
-
-  pub held_all : (i n : ℕ) (l : Largest) → Held i l → i ≤ n → n ≤ i → l ≡ largest_of (take 3 (ranked w n))
-  held_all i n l u h k = u.same ∙ ap (λ (j : ℕ). largest_of (take 3 (ranked w j))) (let e : i ≡ n = omega arith in e)
+  held_next i ps qs e f = f (ranked w i) e (ranked_before w i) ∙ ap (λ (k : ℕ). largest_of (ranked w k)) (let e : suc i ≡ i + 1 = omega arith in e)

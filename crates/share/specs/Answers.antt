@@ -1,5 +1,6 @@
 -- What the answers of the calls say in document 02's numbers.
-use Rattle.std.specs.Prelude.{List, ℕ, Result, Ok, Err}
+use Rattle.std.specs.Prelude.{List, ℕ, get_or, count_by, Result, Ok, Err, None}
+use Rattle.std.specs.Option.{is_some, unwrap_or}
 use Rattle.reading.specs.Table.{Answer, answered, refused}
 use Rattle.rows.specs.Answers.{number_of, gives_of}
 use Rattle.share.specs.Shares.{Shares}
@@ -33,10 +34,10 @@ found_shares x =
     record {
       numerator = x.pooled.numerator;
       denominator = x.pooled.denominator;
-      count = x.largest.count;
-      first = x.largest.first;
-      second = x.largest.second;
-      third = x.largest.third;
+      count = count_by is_some x.largest;
+      first = unwrap_or (get_or x.largest 0 None) 0;
+      second = unwrap_or (get_or x.largest 1 None) 0;
+      third = unwrap_or (get_or x.largest 2 None) 0;
     }
 
 abbrev pub told : Result SharesFound SharesError → Answer Shares

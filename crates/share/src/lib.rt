@@ -1,15 +1,15 @@
 // How much of a list of texts is trivia, and which texts have most of it: document 02, F-14. And the two words of a text, from its reading.
 #![tactic(auto)]
 
-ghost use Rattle.std.specs.Prelude.{◌≡◌, ℕ, suc, ◌^◌, ◌≤◌, ◌<◌, min, max, length, take, get_or};
+ghost use Rattle.std.specs.Prelude.{◌≡◌, ℕ, suc, ◌^◌, ◌≤◌, ◌<◌, min, max, length, take, get_or, position, IfOk};
 ghost use Rattle.reading.specs.Table.{max_text, room, row_width};
 ghost use Rattle.share.specs.Answers.{told, told_words, shares_number, shares_gives, words_number, words_gives};
-ghost use Rattle.share.specs.Shares.{max_texts, texts, trivia_of, length_of, wrong, first_wrong, sum, gcd, share, larger, ranked, shares};
-ghost use Rattle.share.specs.Steps.{fraction, largest_of, With, found_at};
+ghost use Rattle.share.specs.Shares.{max_texts, texts, trivia_of, length_of, wrong, first_wrong, gcd, share, pooled, larger, ranked, shares};
+ghost use Rattle.share.specs.Steps.{fraction, goes_to, largest_of, Inside, With, found_at};
 ghost use Rattle.share.specs.Words.{trivia_at, trivia_sum, text_words};
 ghost use Rattle.share.specs.declared.WordsError.TheVariants.{Tops};
 
-use reading::{MAX_TEXT, Refusal};
+use reading::{HasNumber, MAX_TEXT, Refusal};
 use rows::TopsError;
 use table::{ROW, column};
 
@@ -35,20 +35,11 @@ pub struct Fraction {
     pub denominator: u64,
 }
 
-// How many of the largest there are, three or all if there are fewer, and their indexes, the largest first. Absent ones are 0.
-#[derive(Clone, Copy, Debug, PartialEq, Eq)]
-pub struct Largest {
-    pub count: usize,
-    pub first: usize,
-    pub second: usize,
-    pub third: usize,
-}
-
-// The pooled share in lowest terms, and the texts with the largest shares.
+// The pooled share in lowest terms, and the indexes of the texts with the largest shares, the largest first: three, or all if there are fewer.
 #[derive(Clone, Copy, Debug, PartialEq, Eq)]
 pub struct SharesFound {
     pub pooled: Fraction,
-    pub largest: Largest,
+    pub largest: [Option<usize>; 3],
 }
 
 // So many texts are too many; or the first that is wrong has this index.
@@ -58,10 +49,8 @@ pub enum SharesError {
     WrongText(usize),
 }
 
-impl Refusal for SharesError {
+impl HasNumber for SharesError {
     ghost number = { shares_number };
-
-    ghost gives = { shares_gives };
 
     fn number(&self) -> u32 {
         match self {
@@ -69,6 +58,10 @@ impl Refusal for SharesError {
             SharesError::WrongText(_) => 28,
         }
     }
+}
+
+impl Refusal for SharesError {
+    ghost gives = { shares_gives };
 
     fn gives(&self) -> usize {
         match self {
@@ -104,17 +97,18 @@ impl TextWords {
     }
 }
 
-// The index of the first text that is wrong.
-fn first_wrong(words: &[u32], n: usize) -> Option<usize>
-    requires { n ≤ texts words.now }
-    ensures { found_at result ≡ first_wrong words.now n }
+// An unpaired last word is no text.
+fn count(words: &[u32]) -> usize
+    ensures { result ≡ texts words.now }
 {
-    for i in 0..n {
-        if TextWords::of(words, i).is_wrong() {
-            return Some(i);
-        }
-    }
-    None
+    words.len() / TEXT
+}
+
+// The index of the first text that is wrong.
+fn first_wrong(words: &[u32]) -> Option<usize>
+    ensures { found_at result ≡ first_wrong words.now (texts words.now) }
+{
+    (0..count(words)).find(|i| TextWords::of(words, *i).is_wrong())
 }
 
 // Euclid's, whose turns are not counted.
@@ -149,13 +143,13 @@ fn reduced(a: u64, b: u64) -> Fraction
 }
 
 // The trivia of all texts over their lengths.
-fn pooled(words: &[u32], n: usize) -> Fraction
-    requires { (n ≤ texts words.now) × (n ≤ max_texts) }
-    ensures { fraction result ≡ share (sum (trivia_of words.now) n) (sum (length_of words.now) n) }
+fn pooled(words: &[u32]) -> Fraction
+    requires { texts words.now ≤ max_texts }
+    ensures { fraction result ≡ pooled words.now }
 {
     let mut trivia: u64 = 0;
     let mut length: u64 = 0;
-    for i in 0..n {
+    for i in 0..count(words) {
         let text = TextWords::of(words, i);
         trivia += u64::from(text.trivia);
         length += u64::from(text.length);
@@ -163,7 +157,7 @@ fn pooled(words: &[u32], n: usize) -> Fraction
     reduced(trivia, length)
 }
 
-// Text i is a over b, and text j is c over d. By cross products, which are exact: two words make one of 64 bits.
+// Text i has a larger share than text j. By cross products, which are exact: two words make one of 64 bits.
 fn larger(words: &[u32], i: usize, j: usize) -> bool
     requires { (i < texts words.now) × (j < texts words.now) }
     ensures { result ≡ larger words.now i j }
@@ -175,68 +169,52 @@ fn larger(words: &[u32], i: usize, j: usize) -> bool
     x < y
 }
 
-// The three largest with text i among them. It has the latest index, so it comes behind every share that is not smaller.
-fn with_text(words: &[u32], l: Largest, i: usize) -> Largest
-    requires { (i < texts words.now) × (l.first ≤ i) × (l.second ≤ i) × (l.third ≤ i) }
-    ensures { With words.now i l result }
+// The first of the places that has no text with a share as large as that of text i.
+fn place_of(words: &[u32], largest: &[Option<usize>], i: usize) -> Option<usize>
+    requires { (i < texts words.now) × Inside words.now largest.now }
+    ensures { result ≡ position (goes_to words.now i) largest.now }
 {
-    let count = l.count.min(2) + 1;
-    if l.count < 1 || larger(words, i, l.first) {
-        return Largest {
-            count,
-            first: i,
-            second: l.first,
-            third: l.second,
-        };
-    }
-    if l.count < 2 || larger(words, i, l.second) {
-        return Largest {
-            count,
-            second: i,
-            third: l.second,
-            ..l
-        };
-    }
-    if l.count < 3 || larger(words, i, l.third) {
-        return Largest {
-            count,
-            third: i,
-            ..l
-        };
-    }
-    l
+    largest
+        .iter()
+        .position(|l| l.is_none_or(|j| larger(words, i, j)))
 }
 
-fn three_largest(words: &[u32], n: usize) -> Largest
-    requires { n ≤ texts words.now }
-    ensures { result ≡ largest_of (take 3 (ranked words.now n)) }
+// The largest with text i among them. It has the latest index, so it comes behind every share that is not smaller.
+fn with_text(words: &[u32], largest: &mut [Option<usize>; 3], i: usize)
+    requires { (i < texts words.now) × Inside words.now largest.old }
+    ensures { With words.now i largest.old largest.new }
 {
-    let mut l = Largest {
-        count: 0,
-        first: 0,
-        second: 0,
-        third: 0,
-    };
-    for i in 0..n {
-        l = with_text(words, l, i);
+    if let Some(place) = place_of(words, largest, i) {
+        largest[place..].rotate_right(1);
+        largest[place] = Some(i);
     }
-    l
+}
+
+fn three_largest(words: &[u32]) -> [Option<usize>; 3]
+    ensures { result ≡ largest_of (ranked words.now (texts words.now)) }
+{
+    let mut largest = [None; 3];
+    for i in 0..count(words) {
+        with_text(words, &mut largest, i);
+    }
+    largest
 }
 
 // Of up to 1,000 texts, two words each: the pooled share in lowest terms, and the three texts with the largest shares.
 pub fn shares(words: &[u32]) -> Result<SharesFound, SharesError>
-    ensures { told result ≡ shares words.now }
+    ensures told { told result ≡ shares words.now }
+    ensures largest { IfOk result (λ x. x.largest ≡ largest_of (ranked words.now (texts words.now))) }
 {
-    let n = words.len() / TEXT;
+    let n = count(words);
     if MAX_TEXTS < n {
         return Err(SharesError::TooManyTexts(n));
     }
-    if let Some(i) = first_wrong(words, n) {
+    if let Some(i) = first_wrong(words) {
         return Err(SharesError::WrongText(i));
     }
     Ok(SharesFound {
-        pooled: pooled(words, n),
-        largest: three_largest(words, n),
+        pooled: pooled(words),
+        largest: three_largest(words),
     })
 }
 
@@ -255,10 +233,8 @@ impl From<TopsError> for WordsError {
     }
 }
 
-impl Refusal for WordsError {
+impl HasNumber for WordsError {
     ghost number = { words_number };
-
-    ghost gives = { words_gives };
 
     fn number(&self) -> u32 {
         match self {
@@ -266,6 +242,10 @@ impl Refusal for WordsError {
             WordsError::WrongText => 28,
         }
     }
+}
+
+impl Refusal for WordsError {
+    ghost gives = { words_gives };
 
     // As for a list that has this text alone.
     fn gives(&self) -> usize {

@@ -3,10 +3,12 @@
 // differ.
 #![tactic(auto)]
 
+ghost use Rattle.std.specs.Prelude.{◌≤◌, length};
+
 use fields::Fields;
-use reading::Refusal;
+use reading::{HasNumber, Refusal};
 use rows::TopsError;
-use share::{Fraction, Largest, SharesError, SharesFound, TextWords, WordsError};
+use share::{Fraction, SharesFound, TEXT, TextWords, WordsError};
 use std::io;
 use std::io::{BufWriter, Read, Write};
 use table::{ERROR, REQUEST, ROW};
@@ -14,12 +16,17 @@ use table::{ERROR, REQUEST, ROW};
 // The longest input; what lies behind it is not read.
 const LONGEST: u64 = 65536;
 
+// A refusal's number, and what it gives.
+#[derive(Clone, Copy, Debug, PartialEq, Eq)]
+struct Refused {
+    number: usize,
+    gives: usize,
+}
+
 // The outcome that is expected of a list, and how many words it has.
 #[derive(Clone, Copy)]
 struct Expected {
-    refusal: usize,
-    given: usize,
-    found: SharesFound,
+    outcome: Result<SharesFound, Refused>,
     words: usize,
 }
 
@@ -33,81 +40,77 @@ fn main(rt: HostRuntime) -> io::Result<()> {
 
 // A list of texts is 0, a text is 1.
 fn case(line: &[u8]) -> bool {
-    let mut words = [0u32; 2048];
+    let mut texts = [[0u32; TEXT]; 1024];
     let mut bytes = [0u8; 256];
     let mut fields = Fields::new(line);
     if fields.number() == 0 {
-        return list(&mut fields, &mut words);
+        return list(&mut fields, &mut texts);
     }
     text(&mut fields, &mut bytes)
 }
 
-fn list(fields: &mut Fields, words: &mut [u32]) -> bool {
+fn list(fields: &mut Fields, texts: &mut [[u32; TEXT]]) -> bool {
     let e = expected_of(fields);
-    let n = e.words;
-    let end = texts(fields, words);
-    if end < n || words.len() < n {
+    let n = fill(fields, texts);
+    let Some(words) = texts[..n].as_flattened().get(..e.words) else {
         return false;
-    }
-    as_expected(e, share::shares(&words[..n]))
-}
-
-fn as_expected(e: Expected, r: Result<SharesFound, SharesError>) -> bool {
-    match r {
-        Ok(x) => e.refusal == 0 && e.found == x,
-        Err(x) => e.refusal == x.number() as usize && e.given == x.gives(),
-    }
+    };
+    let outcome = share::shares(words).map_err(|e| Refused {
+        number: e.number() as usize,
+        gives: e.gives(),
+    });
+    outcome == e.outcome
 }
 
 fn expected_of(fields: &mut Fields) -> Expected {
+    let refused = Refused {
+        number: fields.number(),
+        gives: fields.number(),
+    };
+    let found = SharesFound {
+        pooled: Fraction {
+            numerator: fields.number() as u64,
+            denominator: fields.number() as u64,
+        },
+        largest: largest_of(fields),
+    };
     Expected {
-        refusal: fields.number(),
-        given: fields.number(),
-        found: SharesFound {
-            pooled: Fraction {
-                numerator: fields.number() as u64,
-                denominator: fields.number() as u64,
-            },
-            largest: Largest {
-                count: fields.number(),
-                first: fields.number(),
-                second: fields.number(),
-                third: fields.number(),
-            },
+        outcome: if refused.number == 0 {
+            Ok(found)
+        } else {
+            Err(refused)
         },
         words: fields.number(),
     }
 }
 
-// Puts the texts that are left of a line into the list; the place behind them. A run is how often a text comes, its trivia and its length.
-fn texts(fields: &mut Fields, words: &mut [u32]) -> usize {
+// How many there are, and three indexes of which so many count.
+fn largest_of(fields: &mut Fields) -> [Option<usize>; 3] {
+    let count = fields.number();
+    [0, 1, 2].map(|place| {
+        let index = fields.number();
+        (place < count).then_some(index)
+    })
+}
+
+// Puts the texts that are left of a line into the list, as far as there is room; how many there are. A run is how often a text comes, its trivia and
+// its length.
+fn fill(fields: &mut Fields, texts: &mut [[u32; TEXT]]) -> usize
+    ensures { result ≤ length texts.old }
+{
     let mut end: usize = 0;
     // A turn takes three fields, so this is no `for`.
     while !fields.is_empty() {
-        let times = fields.number();
-        let trivia = word(fields.number());
-        let length = word(fields.number());
-        end = put(words, end, times, trivia, length);
+        let times = fields.number().min(texts.len() - end);
+        let text = [word(fields.number()), word(fields.number())];
+        texts[end..end + times].fill(text);
+        end += times;
     }
     end
 }
 
 fn word(n: usize) -> u32 {
-    (n % 4294967296) as u32
-}
-
-// Puts so many of a text into the list from a place on, as far as there is room; the place behind them.
-fn put(words: &mut [u32], at: usize, times: usize, trivia: u32, length: u32) -> usize {
-    let mut i = at;
-    for _ in 0..times {
-        if words.len() <= i || words.len() - i < 2 {
-            break;
-        }
-        words[i] = trivia;
-        words[i + 1] = length;
-        i += 2;
-    }
-    i
+    u32::try_from(n).unwrap_or(u32::MAX)
 }
 
 fn text(fields: &mut Fields, bytes: &mut [u8]) -> bool {
@@ -142,26 +145,12 @@ fn words(
     let Ok(n) = rows::top_count(rows, count) else {
         return false;
     };
-    if n == 0 {
+    if n == 0 || roots.len() < n {
         return false;
     }
-    let a = within(text, rows, count, roots, n);
-    let b = within(text, rows, count, roots, n - 1);
+    let a = share::text_words(text, rows, count, &mut roots[..n]);
+    let b = share::text_words(text, rows, count, &mut roots[..n - 1]);
     answered(a, trivia, length) && b == Err(WordsError::Tops(TopsError::NoRoom(n)))
-}
-
-// Lends so many words for the top rows.
-fn within(
-    text: &[u8],
-    rows: &[u32],
-    count: usize,
-    roots: &mut [usize],
-    n: usize,
-) -> Result<TextWords, WordsError> {
-    if roots.len() < n {
-        return Err(WordsError::WrongText);
-    }
-    share::text_words(text, rows, count, &mut roots[..n])
 }
 
 fn answered(a: Result<TextWords, WordsError>, trivia: usize, length: usize) -> bool {

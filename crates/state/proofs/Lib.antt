@@ -7,3 +7,4 @@ pub mod Bounds
 pub mod Items
 pub mod Blocks
 pub mod Requests
+pub mod Lent

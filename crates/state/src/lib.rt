@@ -7,6 +7,7 @@ ghost use Rattle.state.specs.Codes.{code_number};
 ghost use Rattle.state.specs.Acts.{Reported, Noted, Requested};
 
 use cursor::{Cursor, Stop};
+use reading::HasNumber;
 use table::Pos;
 
 // The last scope number, the flag that swallows the next error, and how many errors and requests there are.
@@ -16,6 +17,14 @@ pub struct State {
     pub swallow: bool,
     pub errors: usize,
     pub requests: usize,
+}
+
+// The tables that a reader is lent.
+#[derive(Drop)]
+pub struct Tables<'a> {
+    pub rows: &'a mut [u32],
+    pub errors: &'a mut [u32],
+    pub requests: &'a mut [u32],
 }
 
 // What an error says, in the words of its message. The error table holds the number.
@@ -28,11 +37,11 @@ pub enum ErrorCode {
     ExpectedClosingDelimiter,
 }
 
-impl ErrorCode {
-    pub fn number(self) -> u32
-        ensures { result ≡ code_number self }
-    {
-        self as u32
+impl HasNumber for ErrorCode {
+    ghost number = { code_number };
+
+    fn number(&self) -> u32 {
+        *self as u32
     }
 }
 
@@ -40,9 +49,15 @@ impl ErrorCode {
 pub type Done = Result<(Cursor, State), Stop<State>>;
 
 // report_error: an error that meets the flag clears it and is lost.
-pub fn report(st: State, code: ErrorCode, low: Pos, high: Pos, errors: &mut [u32]) -> State
+pub fn report<C: HasNumber + Copy>(
+    st: State,
+    code: C,
+    low: Pos,
+    high: Pos,
+    errors: &mut [u32],
+) -> State
     requires { (low.0 < 2 ^ 32) × (high.0 < 2 ^ 32) × (st.errors < 2 ^ 32) }
-    ensures { Reported (record { code = code_number code; low = low.0; high = high.0 }) st result errors.old errors.new }
+    ensures { Reported (record { code = C.number code; low = low.0; high = high.0 }) st result errors.old errors.new }
 {
     let n = st.errors;
     if st.swallow {

@@ -5,12 +5,17 @@ use mathlib.Core.List.{List, [], ◌∷◌}
 use Prim.Native.Nat.{ℕ, ◌-◌, ◌≤◌, ◌<◌}
 use native.Mathlib.Omega.{arith}
 use lib.Dec.{T as Passes}
+use lib.ListN.{length}
 use Rattle.reading.specs.Kind.{blockᵏ, loopᵏ, ifᵏ, segmentᵏ, testᵏ}
 use Rattle.reading.specs.Grammar.{Parser, ◌▸◌, ◌or◌, many0}
 use Rattle.reading.specs.Rules.{opt, directive, expression, multiline_trivia, block, block_item, braces, label, macro_definition, import', statement, error_in_block}
 use Rattle.reading.specs.Rules.{instruction, variable_definition, const_definition, pc_definition, config_definition, macro_invocation, data', segment, loop', if', align, text, file, test, assert, trace}
 use Rattle.reading.proofs.Moves.{moves}
+use Rattle.reading.proofs.Tests.{quiet}
 use Rattle.lexis.specs.Around.{Finished}
+use Rattle.cursor.specs.Text.{cursor}
+use Rattle.cursor.specs.Agree.{Reads}
+use Rattle.cursor.specs.Read.{Read}
 use Rattle.cursor.specs.declared.Cursor.{Cursor}
 use Rattle.state.specs.declared.State.{State as Counts}
 use Rattle.state.specs.Done.{Done}
@@ -20,11 +25,13 @@ use Rattle.state.proofs.Bounds.{sober, acted, moved, fit_got, fit_miss}
 use Rattle.state.proofs.Blocks.{block_out, block_none, block_items, block_end, block_got}
 use Rattle.statement.specs.declared.Body.{Body}
 use Rattle.statement.specs.declared.Body.TheVariants.{Maybe, Block, Branches}
-use Rattle.statement.specs.Shapes.{mark_of, optional, body_of, closing}
+use Rattle.statement.specs.Shapes.{mark_of, optional, body_of, closing, Lifted}
 use Rattle.statement.specs.Heads.{from_macro, from_loop, from_import}
 use Rattle.head.specs.Heads.{word_of, directive_of}
 use Rattle.statement.proofs.Same.{Same, does_same, same_then, or_same, or_assoc}
-use Rattle.statement.proofs.Tests.{Paid, mark_paid, mark_moves, items_paid}
+use Rattle.statement.proofs.Lifts.{Reached, lift_flat}
+use Rattle.statement.proofs.Tests.{Paid, mark_paid, mark_moves}
+use Rattle.cursor.specs.declared.Stop.{Stop}
 use Rattle.cursor.specs.declared.Stop.TheVariants.{Miss, Deep}
 use Rattle.std.specs.Prelude.{Ok, Err, IsErr}
 
@@ -34,14 +41,16 @@ module _ {m : Parser} {s : List ℕ} {c : Cursor} {st : Counts} {left : ℕ} {T 
   pub does_first : {n : Parser} → ((x : Counts) → r ≡ Err (Miss x) → ⊥) → Does (m or n) s c st left T T₁ r
   does_first {n} h = record { acting = λ l. or_first (a.acting l) n h }
 
-  pub does_next : {n : Parser} (x : Counts) → r ≡ Err (Miss x) → {T₂ : Tables} {r₂ : Done} → Does n s c x left T₁ T₂ r₂ → Does (m or n) s c st left T T₂ r₂
-  does_next {n} x q b = record { acting = λ l. or_miss (a.acting l) n x q (b.acting l) }
+  -- a match says in two steps that the first attempt was a miss
+  pub does_next : {n : Parser} {z : Stop Counts} {x : Counts} → r ≡ Err z → z ≡ Miss x → {T₂ : Tables} {r₂ : Done} → Does n s c x left T₁ T₂ r₂
+      → Does (m or n) s c st left T T₂ r₂
+  does_next {n} {x = x} is q b = record { acting = λ l. or_miss (a.acting l) n x (is ∙ ap Err q) (b.acting l) }
 
   pub does_out : {n : Parser} → IsErr r → Does (m ▸ n) s c st left T T₁ r
   does_out {n} h = record { acting = λ l. seq_out (a.acting l) n h }
 
-  pub does_then : {n : Parser} (d : Cursor) (x : Counts) → r ≡ Ok (d, x) → {T₂ : Tables} {r₂ : Done} → Does n s d x left T₁ T₂ r₂ → Does (m ▸ n) s c st left T T₂ r₂
-  does_then {n} d x q b = record { acting = λ l. seq_got (a.acting l) n d x q (b.acting l) }
+  pub does_then : {n : Parser} {d : Cursor} {x : Counts} → r ≡ Ok (d, x) → {T₂ : Tables} {r₂ : Done} → Does n s d x left T₁ T₂ r₂ → Does (m ▸ n) s c st left T T₂ r₂
+  does_then {n} {d} {x} q b = record { acting = λ l. seq_got (a.acting l) n d x q (b.acting l) }
 
   pub does_optional : {r₂ : Done} → r₂ ≡ optional c r → Does (opt m) s c st left T T₁ r₂
   unfolding optional
@@ -56,17 +65,24 @@ module _ {m : Parser} {s : List ℕ} {c : Cursor} {st : Counts} {left : ℕ} {T 
       go (Err Deep) q = from (e ∙ ap (optional c) q ∙ sym q) (record { acting = λ l. opt_first (a.acting l) λ x z. grind arith })
 
   module _ (fit : Fit 0 s c st) where
-    pub fit_then : Paid m → (d : Cursor) (x : Counts) → r ≡ Ok (d, x) → Fit 0 s d x
-    fit_then t d x q = fit_got fit m t.0 t.1 (a.acting 0) d x q
+    pub reached : Paid m → {d : Cursor} {x : Counts} → r ≡ Ok (d, x) → Reached s c d x
+    reached t {d} {x} q = record { fit = fit_got fit m t.0 t.1 (a.acting 0) d x q; grown = (acted m fit.within (a.acting 0) t.0 d x q).grown }
 
-    pub fit_next : Passes (sober m) → (x : Counts) → r ≡ Err (Miss x) → Fit 0 s c x
-    fit_next t x q = fit_miss fit m t (a.acting 0) x q
+    pub moved_then : Passes (moves m) → {d : Cursor} {x : Counts} → r ≡ Ok (d, x) → c.at.0 < d.at.0
+    moved_then t {d} {x} q = moved m fit.within (a.acting 0) t d x q
 
-    pub grown_then : Paid m → (d : Cursor) (x : Counts) → r ≡ Ok (d, x) → c.count.0 ≤ d.count.0
-    grown_then t d x q = (acted m fit.within (a.acting 0) t.0 d x q).grown
+    pub fit_next : Passes (sober m) → {z : Stop Counts} {x : Counts} → r ≡ Err z → z ≡ Miss x → Fit 0 s c x
+    fit_next t {x = x} is q = fit_miss fit m t (a.acting 0) x (is ∙ ap Err q)
 
-    pub moved_then : Passes (moves m) → (d : Cursor) (x : Counts) → r ≡ Ok (d, x) → c.at.0 < d.at.0
-    moved_then t d x q = moved m fit.within (a.acting 0) t d x q
+-- a head that was read without the state, and came to d
+pub record Headway (g : Parser) (s : List ℕ) (c : Cursor) (st : Counts) (t t₁ e e₁ : List ℕ) (d : Cursor) (x : Counts) : Type 0 where
+  pub tells : TellsLeaf g s c st t t₁ e e₁ (Ok (d, x))
+  pub reached : Reached s c d x
+
+pub head_read : {g : Parser} → Passes (quiet g) → Paid g → {s : List ℕ} {c : Cursor} {st : Counts} → Fit 0 s c st → {t t₁ e e₁ : List ℕ} {f : Read}
+    {d : Cursor} {x : Counts} → Lifted (length s) f st e e₁ (Ok (d, x)) → ((left : ℕ) → Reads g s (cursor c.at.0 c.count.0 false) left t t₁ f)
+    → Headway g s c st t t₁ e e₁ d x
+head_read u p fit n a = let h = lift_flat u fit.within n a in record { tells = h; reached = reached (h.does 0 []) fit p refl }
 
 -- Alternatives that were read as a group -----------------------------------
 
@@ -132,30 +148,27 @@ module _ {s : List ℕ} {c : Cursor} (h : 1 ≤ c.at.0) {st : Counts} (fit : Fit
   unfolding block_item
   item_first o = record { acting = λ l. or_first (rule_is h fit.within (a.acting l)) error_in_block o }
 
-  pub item_error : (x : Counts) → r ≡ Err (Miss x) → {t' e' : List ℕ} {r₂ : Done} → TellsLeaf error_in_block s c x T₁.rows t' T₁.errors e' r₂
+  pub item_error : {z : Stop Counts} {x : Counts} → r ≡ Err z → z ≡ Miss x → {t' e' : List ℕ} {r₂ : Done} → TellsLeaf error_in_block s c x T₁.rows t' T₁.errors e' r₂
       → Does block_item s c st left T (tables t' e' T₁.requests) r₂
   unfolding block_item
-  item_error x q b = record { acting = λ l. or_miss (rule_is h fit.within (a.acting l)) error_in_block x q ((b.does _ _).acting l) }
+  item_error {x = x} is q b = record { acting = λ l. or_miss (rule_is h fit.within (a.acting l)) error_in_block x (is ∙ ap Err q) ((b.does _ _).acting l) }
 
 -- Blocks -------------------------------------------------------------------
 
-module _ {s : List ℕ} {c : Cursor} {st : Counts} {t t₁ e e₁ : List ℕ} {r₁ : Done} (a : TellsLeaf (mark_of 123) s c st t t₁ e e₁ r₁) (fit : Fit 0 s c st)
-    (d : Cursor) (x : Counts) (z : r₁ ≡ Ok (d, x)) where
-  pub brace_fit : Fit 0 s d x
-  brace_fit = fit_then (a.does 0 []) fit (mark_paid 123) d x z
+module _ {s : List ℕ} {c : Cursor} {st : Counts} {t t₁ e e₁ : List ℕ} {d : Cursor} {x : Counts} (a : TellsLeaf (mark_of 123) s c st t t₁ e e₁ (Ok (d, x)))
+    (fit : Fit 0 s c st) where
+  pub brace_reached : Reached s c d x
+  brace_reached = reached (a.does 0 []) fit (mark_paid 123) refl
 
   pub brace_at : c.at.0 < d.at.0
-  brace_at = moved_then (a.does 0 []) fit (mark_moves 123) d x z
-
-  pub brace_grown : c.count.0 ≤ d.count.0
-  brace_grown = grown_then (a.does 0 []) fit (mark_paid 123) d x z
+  brace_at = moved_then (a.does 0 []) fit (mark_moves 123) refl
 
 module _ {s : List ℕ} {c : Cursor} {st : Counts} {left : ℕ} {t t₁ e e₁ q : List ℕ} {r₁ : Done} (a : TellsLeaf (mark_of 123) s c st t t₁ e e₁ r₁) where
   pub block_no_brace : IsErr r₁ → Does block s c st left (tables t e q) (tables t₁ e₁ q) r₁
   unfolding block mark_of
   block_no_brace h = block_out block_item blockᵏ 0 (a.does left q) h
 
-  module _ (d : Cursor) (x : Counts) (z : r₁ ≡ Ok (d, x)) where
+  module _ {d : Cursor} {x : Counts} (z : r₁ ≡ Ok (d, x)) where
     pub block_too_deep : left ≡ 0 → Does block s c st left (tables t e q) (tables t₁ e₁ q) (Err Deep)
     unfolding block mark_of
     block_too_deep n = block_none block_item blockᵏ 0 (a.does left q) d x z n
@@ -165,24 +178,16 @@ module _ {s : List ℕ} {c : Cursor} {st : Counts} {left : ℕ} {t t₁ e e₁ q
       unfolding block mark_of
       block_items_out h = block_items block_item blockᵏ 0 (a.does left q) d x z some b h
 
-      module _ (at : 1 ≤ d.at.0) (g : Cursor) (y : Counts) (z₂ : r₂ ≡ Ok (g, y)) {t₃ e₃ : List ℕ} {r₃ : Done}
+      module _ (at : 1 ≤ d.at.0) {g : Cursor} {y : Counts} (z₂ : r₂ ≡ Ok (g, y)) {t₃ e₃ : List ℕ} {r₃ : Done}
           (shut : Closes multiline_trivia (opening c.at.0 (d.at.0 - 1)) s g y T₂.rows t₃ T₂.errors e₃ r₃) where
         pub block_end_out : IsErr r₃ → Does block s c st left (tables t e q) (tables t₃ e₃ T₂.requests) r₃
         unfolding block mark_of
         block_end_out h = block_end block_item blockᵏ 0 (a.does left q) d x z some b (d.at.0 - 1) (omega arith) g y z₂ shut h
 
-        pub block_whole : (h : Cursor) (w : Counts) → r₃ ≡ Ok (h, w) → {f : List ℕ} {v : Cursor} → Finished blockᵏ 0 c (d.at.0 - 1) h t₃ f v
+        pub block_whole : {h : Cursor} {w : Counts} → r₃ ≡ Ok (h, w) → {f : List ℕ} {v : Cursor} → Finished blockᵏ 0 c (d.at.0 - 1) h t₃ f v
             → Does block s c st left (tables t e q) (tables f e₃ T₂.requests) (Ok (record { at = v.at; count = v.count; met = false }, w))
         unfolding block mark_of
-        block_whole h w z₃ {f} row =
+        block_whole {h} {w} z₃ {f} row =
             subst (Does block s c st left (tables t e q) (tables f e₃ T₂.requests))
             (sym (ap {B = Done} (λ (v : Cursor). Ok (record { at = v.at; count = v.count; met = false }, w)) row.is))
             (block_got block_item blockᵏ 0 (a.does left q) d x z some b (d.at.0 - 1) (omega arith) g y z₂ shut h w z₃ row.size row.counts row.table)
-
-module _ {s : List ℕ} {d : Cursor} {x : Counts} (fit : Fit 0 s d x) {left : ℕ} {T T₁ : Tables} {r : Done} (b : Does (many0 block_item) s d x left T T₁ r)
-    (g : Cursor) (y : Counts) (z : r ≡ Ok (g, y)) where
-  pub items_fit : Fit 0 s g y
-  items_fit = fit_then b fit items_paid g y z
-
-  pub items_grown : d.count.0 ≤ g.count.0
-  items_grown = grown_then b fit items_paid g y z

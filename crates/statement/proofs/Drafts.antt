@@ -22,6 +22,8 @@ use Rattle.cursor.specs.declared.Cursor.{Cursor}
 use Rattle.state.specs.declared.State.{State as Counts}
 use Rattle.state.specs.Done.{Done}
 use Rattle.state.specs.Acts.{counts, tables, rules, deep_or, done_of, rows_read, Does, Fit}
+use Rattle.state.specs.Lent.{seen, Same}
+use Rattle.state.specs.declared.Tables.{Tables as Lent}
 use Rattle.state.proofs.Lift.{acting_from}
 use Rattle.state.proofs.Bounds.{sober, acted}
 use Rattle.statement.specs.Lined.{shifted, Appends, AppendsLeaf, LinedLeaf}
@@ -92,10 +94,16 @@ part_behind {g} {s} {at} n {st} {left} u v e q e' q' {r} k c h a =
           };
     }
 
--- where a reader behind n rows may be called: so may one that counts from 0, there or later
-pub fit_later : {s : List ℕ} {at n p : ℕ} {st : Counts} → Fit 0 s (cursor at n false) st → at ≤ p → p ≤ length s → Fit 0 s (cursor p 0 false) st
-fit_later h i j =
-    record { small = h.small; within = j; few = omega arith; charged = omega (arith, h.charged); scopes = omega (arith, h.scopes); requests = omega (arith, h.requests) }
+-- the same where the table is split and its part is lent in the struct
+pub lent_behind : {g : Parser} {s : List ℕ} {at n : ℕ} {st : Counts} {left : ℕ} {u f e q : List ℕ} {r : Done} {T T' : Lent} {k : ℕ} → Cut k n u
+    → Same T T' → Does g s (cursor at 0 false) st left (seen T) (seen T') r → f ≡ take k u
+    → T.rows.now ≡ drop k u → T.errors.now ≡ e → T.requests.now ≡ q → (v e' q' : List ℕ) → v ≡ T'.rows.now → e' ≡ T'.errors.now → q' ≡ T'.requests.now
+    → Appends g s at n st left (tables u e q) (tables (f ++ v) e' q') r
+lent_behind {g} {s} {at} {n} {st} {left} {u} {f} {e} {q} {r} {T} {T'} {k} c h a y i j l v e' q' i' j' l' =
+    let b : Does g s (cursor at 0 false) st left (tables (take (length u - k) (drop k u)) e q) (tables T'.rows.now T'.errors.now T'.requests.now) r =
+    rw (part_is k u, sym i, sym j, sym l) a in
+    let w = part_behind n u T'.rows.now e q T'.errors.now T'.requests.now k c (h.rows_length ∙ ap length (i ∙ sym (part_is k u))) b in
+    rw (i', j', l', y) (subst (λ (z : List ℕ). Appends g s at n st left (tables u e q) (tables (take k u ++ z) T'.errors.now T'.requests.now) r) (rest_is k u T'.rows.now) w)
 
 pub fit_count : {s : List ℕ} {at n : ℕ} {st : Counts} → Fit 0 s (cursor at n false) st → n < 2 ^ 32
 fit_count h = omega (arith, h.few, h.within, h.small)

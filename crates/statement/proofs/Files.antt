@@ -19,7 +19,7 @@ use Rattle.state.proofs.Agree.{got_deep}
 use Rattle.state.proofs.Items.{Walking, walking_none, walking_less, walking_more, walking_end, walking_deep}
 use Rattle.statement.specs.Lined.{shifted, Drafted, Appends, Lined, LinedLeaf}
 use Rattle.statement.proofs.Tests.{top_paid, top_moves, tops_paid}
-use Rattle.statement.proofs.Chains.{does_out, does_then, fit_then}
+use Rattle.statement.proofs.Chains.{does_out, does_then, reached}
 use Rattle.cursor.specs.declared.Stop.TheVariants.{Miss, Deep}
 use Rattle.std.specs.Prelude.{Ok, Err, IsErr}
 
@@ -46,11 +46,11 @@ module _ {s : List ℕ} {st : Counts} {left : ℕ} {T T₁ : Tables} {r : Done} 
   file_out h = does_out a h
 
   file_fit : Fit 0 s (cursor 0 0 false) st → (d : Cursor) (x : Counts) → r ≡ Ok (d, x) → Fit 0 s d x
-  file_fit h d x q = fit_then a h tops_paid d x q
+  file_fit h d x q = (reached a h tops_paid q).fit
 
   file_got : (d : Cursor) (x : Counts) → r ≡ Ok (d, x) → {T₂ : Tables} {r₂ : Done} → Does eof s d x left T₁ T₂ r₂ → Does source_file s (cursor 0 0 false) st left T T₂ r₂
   unfolding source_file
-  file_got d x q b = does_then a d x q b
+  file_got d x q b = does_then a q b
 
 -- The loop over tokens. The table is that of a reading that fills in no line, with the lines of the rows so far; so what is known of such a
 -- reading carries over ----------------------------------------------------------
@@ -62,10 +62,6 @@ pub record Filling (s : List ℕ) (left : ℕ) (st₀ : Counts) (T₀ : Tables) 
 
 pub filling_none : {s : List ℕ} (left : ℕ) {st : Counts} (T : Tables) → Fit 0 s (cursor 0 0 false) st → Filling s left st T 0 0 st T
 filling_none {s} left T h = record { draft = T.rows; lines = lined_none s T.rows; walking = walking_none (statement or error) left T h }
-
-pub filling_rows : {s : List ℕ} {left : ℕ} {st₀ : Counts} {T₀ : Tables} {at count : ℕ} {st : Counts} {T : Tables} → Filling s left st₀ T₀ at count st T
-    → length T.rows ≡ length T₀.rows
-filling_rows {s} {left} {st₀} {T₀} {at} {count} u = ap length u.lines ∙ lined_length s u.draft count ∙ u.walking.rows_length
 
 module _ {s : List ℕ} {left : ℕ} {st₀ : Counts} {T₀ : Tables} {at count : ℕ} {st : Counts} {T : Tables} (u : Filling s left st₀ T₀ at count st T)
     {T₁ : Tables} {r₁ : Done} (b : Appends (statement or error) s at count st left T T₁ r₁) where

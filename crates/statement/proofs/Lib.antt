@@ -7,3 +7,4 @@ pub mod Chains
 pub mod Quiets
 pub mod Files
 pub mod Drafts
+pub mod Kept

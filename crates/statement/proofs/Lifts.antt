@@ -20,32 +20,11 @@ use Rattle.lexis.specs.Around.{Spans}
 use Rattle.state.specs.declared.State.{State as Counts}
 use Rattle.state.specs.Done.{Done}
 use Rattle.state.specs.Acts.{Tables, tables, Acting, Does, Tells, TellsLeaf, Fit, Noted}
-use Rattle.state.proofs.Reports.{note_none}
 use Rattle.state.proofs.Lift.{lift_got, lift_miss, lift_deep}
 use Rattle.state.proofs.Bounds.{sober, settled, acted, fit_got, fit_errors}
 use Rattle.statement.specs.Shapes.{met_of, done_from, Lifted, Headed}
 use Rattle.cursor.specs.declared.Stop.TheVariants.{Miss, Deep}
 use Rattle.std.specs.Prelude.{Ok, Err}
-
--- What `lifted` does -------------------------------------------------------
-
-module _ {n : ℕ} {f : Read} {st : Counts} {e : List ℕ} where
-  pub lifted_got : (d : Cursor) → f ≡ Ok d → {x : Counts} {e' : List ℕ} → Noted n d.met st x e e'
-      → Lifted n f st e e' (Ok (cursor d.at.0 d.count.0 false, x))
-  lifted_got d z {x} {e'} m =
-      record { x = x; noted = subst (λ (y : Read). Noted n (met_of y) st x e e') (sym z) m; answer = ap (λ (y : Read). done_from y x) (sym z) }
-
-  pub lifted_miss : (b : Bool) → f ≡ Err (Miss b) → {x : Counts} {e' : List ℕ} → Noted n b st x e e' → Lifted n f st e e' (Err (Miss x))
-  lifted_miss b z {x} {e'} m =
-      record { x = x; noted = subst (λ (y : Read). Noted n (met_of y) st x e e') (sym z) m; answer = ap (λ (y : Read). done_from y x) (sym z) }
-
-  pub lifted_deep : f ≡ Err Deep → Lifted n f st e e (Err Deep)
-  lifted_deep z =
-      record {
-        x = st;
-        noted = subst (λ (y : Read). Noted n (met_of y) st st e e) (sym z) (note_none n false st e refl);
-        answer = ap (λ (y : Read). done_from y st) (sym z);
-      }
 
 -- What it means ------------------------------------------------------------
 
@@ -81,8 +60,8 @@ module _ {s : List ℕ} {c : Cursor} {st : Counts} (h : Fit 0 s c st) where
   pub fit_lifts : (length s ≤ max_text) × (st.errors < 2 ^ 32)
   fit_lifts = (h.small, omega (arith, fit_errors h))
 
-  pub fit_ready : Ready 0 s (cursor c.at.0 c.count.0 false)
-  fit_ready = record { small = h.small; within = h.within; few = h.few }
+  pub fit_ready : Ready 8 s (cursor c.at.0 c.count.0 false)
+  fit_ready = record { small = h.small; within = h.within; few = omega (arith, h.few) }
 
   -- behind what a parser that owes nothing has read
   pub headed : (g : Parser) → Passes (sober g) → Passes (settled g) → {left : ℕ} {T T₁ : Tables} {r : Done} → Does g s c st left T T₁ r → Headed s c r
@@ -92,16 +71,57 @@ module _ {s : List ℕ} {c : Cursor} {st : Counts} (h : Fit 0 s c st) where
         grown = λ d x q. (acted g h.within (a.acting 0) t d x q).grown;
       }
 
--- a row may be pushed from before the trivia to where a reader ended, and a scope numbered
-pub spans : {s : List ℕ} {c : Cursor} {k : Skip} → Skips multiline_trivia s c.at.0 false k → {d : Cursor} {x : Counts} → Fit 0 s d x → c.count.0 ≤ d.count.0
+-- what was read from c on has come to d: the next may be called there, and there are no fewer rows
+pub record Reached (s : List ℕ) (c d : Cursor) (x : Counts) : Type 0 where
+  pub fit : Fit 0 s d x
+  pub grown : c.count.0 ≤ d.count.0
+
+pub reached_then : {s : List ℕ} {c d e : Cursor} {x y : Counts} → Reached s c d x → Reached s d e y → Reached s c e y
+reached_then a b = record { fit = b.fit; grown = omega (arith, a.grown, b.grown) }
+
+pub headed_reached : {s : List ℕ} {c : Cursor} {h : Done} → Headed s c h → {d : Cursor} {x : Counts} → h ≡ Ok (d, x) → Reached s c d x
+headed_reached a {d} {x} q = record { fit = a.fit d x q; grown = a.grown d x q }
+
+-- so a row may be pushed around it from before the trivia, and a scope numbered
+pub spans : {s : List ℕ} {c : Cursor} {k : Skip} → Skips multiline_trivia s c.at.0 false k → {d : Cursor} {x : Counts} → Reached s c d x
     → Spans c k.at.0 d × (x.scope + 1 < 2 ^ 32)
-spans skip {d} {x} b grown = (
-  record {
-    grown = grown;
-    few = omega (arith, b.small, b.within, b.few);
-    start = omega (arith, b.small, skip.on, skip.within);
-    body = omega (arith, b.small, skip.within);
-    end = omega (arith, b.small, b.within);
-  },
-  omega (arith, b.small, b.within, b.scopes),
-)
+spans skip a =
+    let b = a.fit in (
+      record {
+        grown = a.grown;
+        few = omega (arith, b.small, b.within, b.few);
+        start = omega (arith, b.small, skip.on, skip.within);
+        body = omega (arith, b.small, skip.within);
+        end = omega (arith, b.small, b.within);
+      },
+      omega (arith, b.small, b.within, b.scopes),
+    )
+
+-- A place behind trivia, where no open comment was met before ----------------
+
+module _ {s : List ℕ} {c : Cursor} (e : c.met ≡ false) where
+  pub reads_sober : {g : Parser} {left : ℕ} {t t' : List ℕ} {r : Read} → Reads g s c left t t' r → Reads g s (cursor c.at.0 c.count.0 false) left t t' r
+  reads_sober {g} {left} {t} {t'} {r} a = subst (λ (m : Bool). Reads g s (cursor c.at.0 c.count.0 m) left t t' r) e a
+
+  pub flat_sober : {g : Parser} {t t' : List ℕ} {r : Read} → ((left : ℕ) → Reads g s c left t t' r) → (left : ℕ) → Reads g s (cursor c.at.0 c.count.0 false) left t t' r
+  flat_sober a left = reads_sober (a left)
+
+  pub leafs_sober : {g : Parser} {t t' : List ℕ} {r : Read} → Leafs g s c t t' r → Leafs g s (cursor c.at.0 c.count.0 false) t t' r
+  leafs_sober {g} {t} {t'} {r} a = subst (λ (m : Bool). Leafs g s (cursor c.at.0 c.count.0 m) t t' r) e a
+
+pub skips_sober : {g : Parser} {s : List ℕ} {i : ℕ} {m : Bool} {k : Skip} → m ≡ false → Skips g s i m k → Skips g s i false k
+skips_sober {g} {s} {i} {k = k} e x = subst (λ (m : Bool). Skips g s i m k) e x
+
+module _ {s s' : List ℕ} {c c' : Cursor} (e : s' ≡ s) (f : c' ≡ cursor c.at.0 c.count.0 false) where
+  pub fit_told : {st : Counts} → Fit 0 s c st → Fit 0 s' c' st
+  fit_told {st} h =
+      subst (λ (s : List ℕ). Fit 0 s c' st) (sym e) (subst (λ (c : Cursor). Fit 0 s c st) (sym f)
+      (record { small = h.small; within = h.within; few = h.few; charged = h.charged; scopes = h.scopes; requests = h.requests }))
+
+  pub does_told : {g : Parser} {st : Counts} {left : ℕ} {T T' : Tables} {r : Done} → Does g s' c' st left T T' r → Does g s c st left T T' r
+  does_told {g} {st} {left} {T} {T'} {r} a =
+      let b = subst (λ (s : List ℕ). Does g s (cursor c.at.0 c.count.0 false) st left T T' r) e (subst (λ (c : Cursor). Does g s' c st left T T' r) f a) in
+      record { acting = b.acting }
+
+  pub leaf_told : {g : Parser} {st : Counts} {t t' x x' : List ℕ} {r : Done} → TellsLeaf g s' c' st t t' x x' r → TellsLeaf g s c st t t' x x' r
+  leaf_told a = record { does = λ left q. does_told (a.does left q) }

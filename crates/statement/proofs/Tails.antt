@@ -1,29 +1,26 @@
 -- The row around a statement, and what stands behind a head: one law for every head.
-use mathlib.Core.Path.{◌≡◌, refl, ap, ap₂, sym, subst, ◌∙◌}
+use mathlib.Core.Path.{◌≡◌, refl, sym, subst}
 use mathlib.Core.Bool.{Bool, true, false}
 use mathlib.Core.List.{List}
-use Prim.Native.Nat.{ℕ, ◌+◌, ◌-◌, ◌*◌, ◌^◌, ◌≤◌, ◌<◌}
+use Prim.Native.Nat.{ℕ, ◌+◌, ◌-◌, ◌*◌, ◌≤◌}
 use native.Mathlib.Omega.{arith}
 use lib.ListN.{length}
-use Rattle.reading.specs.Kind.{importᵏ}
 use Rattle.reading.specs.Grammar.{Rows, State, Input, Reply, ok, err, Parser, ◌▸◌, node, first_low, parse}
 use Rattle.reading.specs.Rules.{multiline_trivia, all_rules}
 use Rattle.reading.proofs.Trees.{Each}
 use Rattle.reading.proofs.Cost.{cost}
 use Rattle.reading.proofs.Meters.{dues, error_prices, scope_prices, request_prices}
-use Rattle.reading.specs.Table.{request_width}
-use Rattle.table.specs.Words.{pushed, request_record}
-use Rattle.cursor.specs.Text.{here, cursor, Skips}
+use Rattle.cursor.specs.Text.{here, Skips}
 use Rattle.cursor.specs.declared.Cursor.{Cursor}
 use Rattle.cursor.specs.declared.Skip.{Skip}
 use Rattle.state.specs.declared.State.{State as Counts}
 use Rattle.state.specs.Done.{Done}
-use Rattle.state.specs.Acts.{counts, Tables, tables, rules, Acting, Does, Fit, Requested}
+use Rattle.state.specs.Acts.{counts, Tables, tables, rules, Acting, Does, Fit}
 use Rattle.state.proofs.Laws.{seq_out, seq_got, seq_assoc}
 use Rattle.state.proofs.Rows.{Starts, line_quiet, starts_node, over_out, over_got, scoped_out, scoped_got}
 use Rattle.state.proofs.Bounds.{acted}
 use Rattle.statement.specs.declared.Body.{Body}
-use Rattle.statement.specs.Shapes.{closing, closed_state, closed_rows, Closed, Imported, body_of, Begins, Headed, Ends}
+use Rattle.statement.specs.Shapes.{closing, Closed, body_of, Begins, Headed, Ends}
 use Rattle.head.specs.Heads.{word_of, directive_of, directive_expression}
 use Rattle.statement.proofs.Tests.{directive_sober}
 use Rattle.std.specs.Prelude.{Ok, IsErr}
@@ -46,18 +43,6 @@ pub begins_node : (k : ℕ) (d : Rows → ℕ) (m : Parser) {s : List ℕ} {i : 
 begins_node k d m skip = begins_from λ l lim st. starts_node k d m line_quiet skip
 
 -- The row ------------------------------------------------------------------
-
-module _ {kind : ℕ} {c : Cursor} {k : Skip} {d : Cursor} {st : Counts} {t t' : List ℕ} {scope : Bool} where
-  pub closed_numbered : scope ≡ true → t' ≡ closed_rows kind (st.scope + 1) c k d t
-      → Closed scope kind c k d st t t' (Ok (cursor d.at.0 (d.count.0 + 1) false, closed_state true st))
-  closed_numbered e h =
-      subst (λ (b : Bool). Closed b kind c k d st t t' (Ok (cursor d.at.0 (d.count.0 + 1) false, closed_state true st))) (sym e)
-      (record { table = h; answer = refl })
-
-  pub closed_plain : scope ≡ false → t' ≡ closed_rows kind 0 c k d t → Closed scope kind c k d st t t' (Ok (cursor d.at.0 (d.count.0 + 1) false, st))
-  closed_plain e h =
-      subst (λ (b : Bool). Closed b kind c k d st t t' (Ok (cursor d.at.0 (d.count.0 + 1) false, st))) (sym e)
-      (record { table = h; answer = refl })
 
 pub closing_out : (scope : Bool) (kind : ℕ) {m n : Parser} {s : List ℕ} {l lim i base : ℕ} {st : Counts} {T T₁ : Tables} {r : Done}
     → Acting (m ▸ n) s l lim i base st T T₁ r → IsErr r → Acting (closing scope kind m n) s l lim i base st T T₁ r
@@ -82,7 +67,7 @@ module _ {b : Body} {scope : Bool} {kind : ℕ} {s : List ℕ} {c : Cursor} {k :
   ends_out o =
       record { does = λ m n st T₀ first a. record { acting = λ l. closing_out scope kind (seq_assoc (seq_out (a.acting l) (body_of b) o)) o } }
 
-  module _ (d : Cursor) (x : Counts) (q : h ≡ Ok (d, x)) {T₁ : Tables} {r₁ : Done} (g : Does (body_of b) s d x left T T₁ r₁) where
+  module _ {d : Cursor} {x : Counts} (q : h ≡ Ok (d, x)) {T₁ : Tables} {r₁ : Done} (g : Does (body_of b) s d x left T T₁ r₁) where
     pub ends_body : IsErr r₁ → Ends b scope kind s c k h left T T₁ r₁
     ends_body o =
         record {
@@ -91,9 +76,9 @@ module _ {b : Body} {scope : Bool} {kind : ℕ} {s : List ℕ} {c : Cursor} {k :
           };
         }
 
-    pub ends_got : (e : Cursor) (y : Counts) → r₁ ≡ Ok (e, y) → c.count.0 ≤ e.count.0 → {t' : List ℕ} {r : Done} → Closed scope kind c k e y T₁.rows t' r
+    pub ends_got : {e : Cursor} {y : Counts} → r₁ ≡ Ok (e, y) → c.count.0 ≤ e.count.0 → {t' : List ℕ} {r : Done} → Closed scope kind c k e y T₁.rows t' r
         → Ends b scope kind s c k h left T (tables t' T₁.errors T₁.requests) r
-    ends_got e y z grown w =
+    ends_got {e} {y} z grown w =
         record {
           does = λ m n st T₀ first a. record {
             acting = λ l. closing_got scope (seq_assoc (seq_got (a.acting l) (body_of b) d x q (g.acting l))) (starts_from first) e y z grown w;
@@ -132,30 +117,3 @@ directive_headed w {s} {c} {st} some h {r = r} a =
           scopes = omega (arith, h.scopes, b.scopes, due.1);
           requests = omega (arith, h.requests, b.requests, due.2);
         }
-
--- An import's row and request ----------------------------------------------
-
-got_is : (e f : Cursor) (x y : Counts) → ◌≡◌ {A = Done} (Ok (e, x)) (Ok (f, y)) → (e ≡ f) × (x ≡ y)
-got_is e f x y h =
-    let p : ◌≡◌ {A = Cursor × Counts} (e, x) (f, y) = cc in (ap (λ (q : Cursor × Counts). q.0) p, ap (λ (q : Cursor × Counts). q.1) p)
-
-abbrev asked : Counts → Counts
-asked st = record { scope = st.scope; swallow = st.swallow; errors = st.errors; requests = st.requests + 1 }
-
-pub imported_request : {low high : ℕ} {c : Cursor} {k : Skip} {d : Cursor} {st : Counts} {t t' q q' : List ℕ} {r : Done}
-    → Closed true importᵏ c k d st t t' r → (e : Cursor) (x : Counts) → r ≡ Ok (e, x) → {y : Counts} → Requested (record { low = low; high = high }) x y q q'
-    → Imported low high c k d st t t' q q' (Ok (e, y))
-imported_request {low} {high} {d = d} {st = st} {q = q} w e x z {y} n =
-    let is = got_is e (cursor d.at.0 (d.count.0 + 1) false) x (closed_state true st) (sym z ∙ w.answer) in
-    record {
-      rows = w.table;
-      requests = n.table ∙ ap (λ (i : Counts). pushed request_width q i.requests (request_record low high)) is.1;
-      answer = ap₂ {C = Done} (λ (e : Cursor) (x : Counts). Ok (e, x)) is.0 (n.state ∙ ap asked is.1);
-    }
-
-pub closed_requests : {c : Cursor} {k : Skip} {d : Cursor} {st : Counts} {t t' : List ℕ} {r : Done} → Closed true importᵏ c k d st t t' r
-    → (e : Cursor) (x : Counts) → r ≡ Ok (e, x) → {low high : ℕ} → (low < 2 ^ 32) × (high < 2 ^ 32) × (st.requests < 2 ^ 32)
-    → (low < 2 ^ 32) × (high < 2 ^ 32) × (x.requests < 2 ^ 32)
-closed_requests {d = d} {st = st} w e x z b =
-    let is = got_is e (cursor d.at.0 (d.count.0 + 1) false) x (closed_state true st) (sym z ∙ w.answer) in
-    (b.0, b.1, subst (λ (i : Counts). i.requests < 2 ^ 32) (sym is.1) b.2)

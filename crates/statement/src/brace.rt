@@ -1,32 +1,24 @@
 // The braces of a block.
-ghost use Rattle.std.specs.Prelude.{false, ◌≤◌, ◌<◌, length};
+ghost use Rattle.std.specs.Prelude.{false, ◌≡◌, ◌≤◌, ◌<◌, length};
 ghost use Rattle.reading.specs.Rules.{multiline_trivia};
-ghost use Rattle.cursor.specs.Text.{Skips};
 ghost use Rattle.state.specs.Acts.{Fit, TellsLeaf, Closes, opening};
 ghost use Rattle.statement.specs.Shapes.{mark_of};
 
 use crate::lift::lifted;
-use cursor::{Cursor, Skip, Stop};
+use cursor::{Cursor, Stop};
 use lexis::mark;
+use lexis::spot::{Lines, Spot};
 use state::{Done, ErrorCode, State};
 use table::{Kind, Pos, RowIndex};
 
-// The byte b behind the trivia that ends at k.
-pub fn mark(
-    s: &[u8],
-    c: Cursor,
-    k: Skip,
-    st: State,
-    b: u8,
-    rows: &mut [u32],
-    errors: &mut [u32],
-) -> Done
-    requires fit { Fit 0 s.now c st }
-    requires skips { Skips multiline_trivia s.now c.at.0 false k }
-    ensures { TellsLeaf (mark_of b) s.now c st rows.old rows.new errors.old errors.new result }
+// The byte b behind the trivia before it.
+pub fn mark(p: Spot<Lines>, st: State, b: u8, rows: &mut [u32], errors: &mut [u32]) -> Done
+    requires fit { Fit 0 p.text.now p.start st }
+    requires sober { p.start.met ≡ false }
+    ensures { TellsLeaf (mark_of b) p.entry.text.now p.entry.start st rows.old rows.new errors.old errors.new result }
 {
-    let read = mark::char(s, Cursor { met: false, ..c }, k, b, rows);
-    lifted(s, st, read, errors)
+    let read = mark::char(p, b, rows);
+    lifted(p.text, st, read, errors)
 }
 
 // The end of a block whose opening brace stands at `low`, behind trivia from `tlow`: the closing brace, or a report before the trivia and a
@@ -44,8 +36,8 @@ pub fn close(
     requires in_text { (tlow.0 ≤ length s.now) × (low.0 < length s.now) }
     ensures { Closes multiline_trivia (opening tlow.0 low.0) s.now c st rows.old rows.new errors.old errors.new result }
 {
-    let k = trivia::multiline_trivia(s, c.at, false);
-    let x = match mark(s, c, k, st, b'}', rows, errors) {
+    let p = Spot::<Lines>::new(s, Cursor { met: false, ..c });
+    let x = match mark(p, st, b'}', rows, errors) {
         Err(Stop::Miss(x)) => x,
         done => return done,
     };

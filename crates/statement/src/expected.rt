@@ -3,15 +3,15 @@ ghost use Rattle.std.specs.Prelude.{false, Err, ◌≡◌, ◌^◌, ◌≤◌, �
 ghost use Rattle.reading.specs.Grammar.{expect};
 ghost use Rattle.reading.specs.Rules.{multiline_trivia, config_map, config_definition, expression_arg_list, data'};
 ghost use Rattle.cursor.specs.declared.Stop.TheVariants.{Miss};
-ghost use Rattle.cursor.specs.Text.{Skips};
 ghost use Rattle.state.specs.Acts.{Fit, Tells};
 ghost use Rattle.state.specs.Codes.{code_number};
 ghost use Rattle.statement.specs.Shapes.{Expected};
 
 use crate::lift::lifted;
 use crate::row;
-use cursor::{Cursor, Skip, Stop};
+use cursor::{Cursor, Stop};
 use head::directive;
+use lexis::spot::{Lines, Spot};
 use operand::config_map;
 use state::{Done, ErrorCode, State};
 use table::Kind;
@@ -41,22 +41,20 @@ fn map(s: &[u8], c: Cursor, st: State, left: usize, rows: &mut [u32], errors: &m
 }
 
 pub fn definition(
-    s: &[u8],
-    c: Cursor,
-    k: Skip,
+    p: Spot<Lines>,
     st: State,
     left: usize,
     rows: &mut [u32],
     errors: &mut [u32],
 ) -> Done
-    requires fit { Fit 0 s.now c st }
-    requires skips { Skips multiline_trivia s.now c.at.0 false k }
-    ensures { Tells config_definition s.now c st left rows.old rows.new errors.old errors.new result }
+    requires fit { Fit 0 p.text.now p.start st }
+    requires sober { p.start.met ≡ false }
+    ensures { Tells config_definition p.entry.text.now p.entry.start st left rows.old rows.new errors.old errors.new result }
 {
-    let read = head::definition::define_head(s, Cursor { met: false, ..c }, k, rows);
-    let (d, x) = lifted(s, st, read, errors)?;
-    let (e, y) = map(s, d, x, left, rows, errors)?;
-    row::close(c, k, e, y, Kind::Definition, false, rows)
+    let read = head::definition::define_head(p, rows);
+    let (d, x) = lifted(p.text, st, read, errors)?;
+    let (e, y) = map(p.text, d, x, left, rows, errors)?;
+    row::close(p.start, p.end, e, y, Kind::Definition, false, rows)
 }
 
 // Values, or a report.
@@ -70,21 +68,13 @@ fn values(s: &[u8], c: Cursor, st: State, left: usize, rows: &mut [u32], errors:
     expected(c, done, ErrorCode::ExpectedExpression, errors)
 }
 
-pub fn data(
-    s: &[u8],
-    c: Cursor,
-    k: Skip,
-    st: State,
-    left: usize,
-    rows: &mut [u32],
-    errors: &mut [u32],
-) -> Done
-    requires fit { Fit 0 s.now c st }
-    requires skips { Skips multiline_trivia s.now c.at.0 false k }
-    ensures { Tells data' s.now c st left rows.old rows.new errors.old errors.new result }
+pub fn data(p: Spot<Lines>, st: State, left: usize, rows: &mut [u32], errors: &mut [u32]) -> Done
+    requires fit { Fit 0 p.text.now p.start st }
+    requires sober { p.start.met ≡ false }
+    ensures { Tells data' p.entry.text.now p.entry.start st left rows.old rows.new errors.old errors.new result }
 {
-    let read = directive::data_head(s, Cursor { met: false, ..c }, k, rows);
-    let (d, x) = lifted(s, st, read, errors)?;
-    let (e, y) = values(s, d, x, left, rows, errors)?;
-    row::close(c, k, e, y, Kind::Data, false, rows)
+    let read = directive::data_head(p, rows);
+    let (d, x) = lifted(p.text, st, read, errors)?;
+    let (e, y) = values(p.text, d, x, left, rows, errors)?;
+    row::close(p.start, p.end, e, y, Kind::Data, false, rows)
 }

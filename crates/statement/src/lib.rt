@@ -9,12 +9,13 @@ ghost use Rattle.reading.specs.Table.{max_text, max_scope};
 ghost use Rattle.line.specs.Lines.{Numbered, Cut};
 ghost use Rattle.line.specs.Marks.{On};
 ghost use Rattle.cursor.specs.Text.{cursor};
-ghost use Rattle.state.specs.Acts.{Fit, Does, tables};
+ghost use Rattle.state.specs.Acts.{Fit, tables};
+ghost use Rattle.state.specs.Lent.{seen, Same, DoesIn};
 ghost use Rattle.statement.specs.Lined.{Appends, AppendsLeaf, Lined, LinedLeaf};
 
 use cursor::{Cursor, Stop};
 use line::Stretch;
-use state::{Done, State};
+use state::{Done, State, Tables};
 use table::{Pos, RowIndex};
 
 pub mod brace;
@@ -34,23 +35,15 @@ pub enum Body {
 }
 
 // A statement or error text.
-fn token(
-    s: &[u8],
-    c: Cursor,
-    st: State,
-    left: usize,
-    rows: &mut [u32],
-    errors: &mut [u32],
-    requests: &mut [u32],
-) -> Done
+fn token(s: &[u8], c: Cursor, st: State, left: usize, tables: &mut Tables) -> Done
     requires { Fit 0 s.now c st }
-    ensures { Does (statement or error) s.now c st left (tables rows.old errors.old requests.old) (tables rows.new errors.new requests.new) result }
+    ensures { DoesIn (statement or error) s.now c st left tables.old tables.new result }
 {
-    let x = match stmt::statement(s, c, st, left, rows, errors, requests) {
+    let x = match stmt::statement(s, c, st, left, tables) {
         Err(Stop::Miss(x)) => x,
         done => return done,
     };
-    text::error(s, c, x, rows, errors)
+    text::error(s, c, x, tables.rows, tables.errors)
 }
 
 // Where the rows behind so many begin; the table's end where it has no room for them.
@@ -65,7 +58,8 @@ fn part_at(rows: &[u32], count: usize) -> usize
     at
 }
 
-// A token behind so many rows. The answer counts its own rows.
+// A token behind so many rows. The answer counts its own rows. The part of the rows goes into a struct of its own; it is split off the slice, since
+// no part can be lent out of the struct beside the other fields, and what is written to a part by range in a struct is not known behind it.
 fn token_behind(
     s: &[u8],
     at: Pos,
@@ -80,6 +74,12 @@ fn token_behind(
     ensures { Appends (statement or error) s.now at.0 count st left (tables rows.old errors.old requests.old) (tables rows.new errors.new requests.new) result }
 {
     let k = part_at(rows, count);
+    let (_, part) = rows.split_at_mut(k);
+    let mut tables = Tables {
+        rows: part,
+        errors,
+        requests,
+    };
     token(
         s,
         Cursor {
@@ -89,9 +89,7 @@ fn token_behind(
         },
         st,
         left,
-        &mut rows[k..],
-        errors,
-        requests,
+        &mut tables,
     )
 }
 
@@ -148,16 +146,10 @@ fn end(
 
 // The whole text, from a state with no errors and no requests. It ends, or goes too deep. The lines of a token's rows are filled in as soon as they stand,
 // which is faster than a pass at the end.
-pub fn source_file(
-    s: &[u8],
-    st: State,
-    left: usize,
-    rows: &mut [u32],
-    errors: &mut [u32],
-    requests: &mut [u32],
-) -> Done
+pub fn source_file(s: &[u8], st: State, left: usize, tables: &mut Tables) -> Done
     requires { (length s.now ≤ max_text) × (st.scope ≤ max_scope) × (st.errors ≡ 0) × (st.requests ≡ 0) }
-    ensures { Lined source_file s.now (cursor 0 0 false) st left (tables rows.old errors.old requests.old) (tables rows.new errors.new requests.new) result }
+    ensures same { Same tables.old tables.new }
+    ensures does { Lined source_file s.now (cursor 0 0 false) st left (seen tables.old) (seen tables.new) result }
 {
     let mut at = 0;
     let mut count = 0;
@@ -165,16 +157,25 @@ pub fn source_file(
     let mut here = line::start(s);
     // A turn goes on from where the reader stopped, with the tables lent for writing: an iterator would hide that, and be no shorter.
     loop {
-        match token_behind(s, Pos(at), count, state, left, rows, errors, requests) {
+        match token_behind(
+            s,
+            Pos(at),
+            count,
+            state,
+            left,
+            tables.rows,
+            tables.errors,
+            tables.requests,
+        ) {
             Ok((d, x)) => {
                 let n = count + d.count.0;
-                here = line::number(s, rows, count, n, here);
+                here = line::number(s, tables.rows, count, n, here);
                 at = d.at.0;
                 count = n;
                 state = x;
             }
             Err(Stop::Miss(x)) => {
-                return end(s, Pos(at), count, x, here, rows, errors);
+                return end(s, Pos(at), count, x, here, tables.rows, tables.errors);
             }
             Err(Stop::Deep) => return Err(Stop::Deep),
         }

@@ -1,26 +1,26 @@
 // The row around a statement.
 ghost use Rattle.std.specs.Prelude.{◌+◌, ◌^◌, ◌<◌};
-ghost use Rattle.table.specs.Kinds.{kind_number};
 ghost use Rattle.lexis.specs.Around.{Spans};
 ghost use Rattle.statement.specs.Shapes.{Closed, Imported};
 
 use cursor::{Cursor, Skip};
 use lexis::mark;
+use reading::HasNumber;
 use state::{Done, State};
 use table::{Kind, Pos};
 
-// From c to d, with the low k. A scope gets its number now.
-pub fn close(
+// From c to d, with a body from k on. A scope gets its number now.
+pub fn close<K: HasNumber + Copy>(
     c: Cursor,
     k: Skip,
     d: Cursor,
     st: State,
-    kind: Kind,
+    kind: K,
     scope: bool,
     rows: &mut [u32],
 ) -> Done
     requires { Spans c k.at.0 d × (st.scope + 1 < 2 ^ 32) }
-    ensures { Closed scope (kind_number kind) c k d st rows.old rows.new result }
+    ensures { Closed scope (K.number kind) c k d st rows.old rows.new result }
 {
     if scope {
         let number = st.scope + 1;

@@ -2,18 +2,19 @@
 ghost use Rattle.std.specs.Prelude.{false, ◌≡◌, ◌^◌, ◌≤◌, ◌<◌, length};
 ghost use Rattle.reading.specs.Grammar.{◌▸◌, many0};
 ghost use Rattle.reading.specs.Rules.{opt, multiline_trivia, directive, expression, block, block_item, braces, label, macro_definition, import', statement};
-ghost use Rattle.cursor.specs.Text.{Skips};
 ghost use Rattle.table.specs.Kinds.{kind_number};
-ghost use Rattle.state.specs.Acts.{Fit, Does, tables};
+ghost use Rattle.state.specs.Acts.{Fit};
+ghost use Rattle.state.specs.Lent.{seen, Same, DoesIn};
 ghost use Rattle.statement.specs.Shapes.{optional, body_of, closing, Headed, Ends};
 ghost use Rattle.statement.specs.Heads.{from_macro, from_loop, from_import};
 ghost use Rattle.head.specs.Heads.{directive_of};
 
 use crate::lift::lifted;
 use crate::{Body, brace, quiet, row, text};
-use cursor::{Cursor, Skip, Stop};
+use cursor::{Cursor, Stop};
 use lexis::mark;
-use state::{Done, State};
+use lexis::spot::{Lines, Spot};
+use state::{Done, State, Tables};
 use table::{Kind, Pos};
 
 // What stands behind a statement's head, the kind of the row around it all, and whether that row takes a scope number.
@@ -62,46 +63,30 @@ const TEST: Form = Form {
 
 // A statement or error text.
 #[cycle(statement)]
-fn item(
-    s: &[u8],
-    c: Cursor,
-    st: State,
-    left: usize,
-    rows: &mut [u32],
-    errors: &mut [u32],
-    requests: &mut [u32],
-) -> Done
+fn item(s: &[u8], c: Cursor, st: State, left: usize, tables: &mut Tables) -> Done
     requires fit { Fit 0 s.now c st }
     requires behind { 1 ≤ c.at.0 }
-    ensures { Does block_item s.now c st left (tables rows.old errors.old requests.old) (tables rows.new errors.new requests.new) result }
+    ensures { DoesIn block_item s.now c st left tables.old tables.new result }
 {
-    let x = match statement(s, c, st, left, rows, errors, requests) {
+    let x = match statement(s, c, st, left, tables) {
         Err(Stop::Miss(x)) => x,
         done => return done,
     };
-    text::error_in_block(s, c, x, rows, errors)
+    text::error_in_block(s, c, x, tables.rows, tables.errors)
 }
 
 #[cycle(statement)]
-fn items(
-    s: &[u8],
-    c: Cursor,
-    st: State,
-    left: usize,
-    rows: &mut [u32],
-    errors: &mut [u32],
-    requests: &mut [u32],
-) -> Done
+fn items(s: &[u8], c: Cursor, st: State, left: usize, tables: &mut Tables) -> Done
     requires fit { Fit 0 s.now c st }
     requires behind { 1 ≤ c.at.0 }
-    ensures { Does (many0 block_item) s.now c st left (tables rows.old errors.old requests.old) (tables rows.new errors.new requests.new) result }
+    ensures { DoesIn (many0 block_item) s.now c st left tables.old tables.new result }
 {
     let mut next = c;
     let mut state = st;
     // As in `source_file`.
     loop {
         let start = Cursor { met: false, ..next };
-        match item(s, start, state, left, rows, errors, requests) {
+        match item(s, start, state, left, tables) {
             Ok((d, x)) => {
                 next = d;
                 state = x;
@@ -112,48 +97,31 @@ fn items(
     }
 }
 
-// A block, its brace behind the trivia that ends at k.
+// A block, its brace behind the trivia before it.
 #[cycle(statement)]
-fn braced(
-    s: &[u8],
-    c: Cursor,
-    k: Skip,
-    st: State,
-    left: usize,
-    rows: &mut [u32],
-    errors: &mut [u32],
-    requests: &mut [u32],
-) -> Done
-    requires fit { Fit 0 s.now c st }
-    requires skips { Skips multiline_trivia s.now c.at.0 false k }
-    ensures { Does block s.now c st left (tables rows.old errors.old requests.old) (tables rows.new errors.new requests.new) result }
+fn braced(p: Spot<Lines>, st: State, left: usize, tables: &mut Tables) -> Done
+    requires fit { Fit 0 p.text.now p.start st }
+    requires sober { p.start.met ≡ false }
+    ensures { DoesIn block p.entry.text.now p.entry.start st left tables.old tables.new result }
 {
-    let (d, x) = brace::mark(s, c, k, st, b'{', rows, errors)?;
+    let (d, x) = brace::mark(p, st, b'{', tables.rows, tables.errors)?;
     if left == 0 {
         return Err(Stop::Deep);
     }
     let low = Pos(d.at.0 - 1);
-    let (e, y) = items(s, d, x, left - 1, rows, errors, requests)?;
-    let (j, z) = brace::close(s, e, y, c.at, low, rows, errors)?;
-    let end = mark::around(c, low, j, Kind::Block, 0, rows);
+    let (e, y) = items(p.text, d, x, left - 1, tables)?;
+    let (j, z) = brace::close(p.text, e, y, p.start.at, low, tables.rows, tables.errors)?;
+    let end = mark::around(p.start, low, j, Kind::Block, 0, tables.rows);
     Ok((Cursor { met: false, ..end }, z))
 }
 
 #[cycle(statement)]
-fn block(
-    s: &[u8],
-    c: Cursor,
-    st: State,
-    left: usize,
-    rows: &mut [u32],
-    errors: &mut [u32],
-    requests: &mut [u32],
-) -> Done
+fn block(s: &[u8], c: Cursor, st: State, left: usize, tables: &mut Tables) -> Done
     requires { Fit 0 s.now c st }
-    ensures { Does block s.now c st left (tables rows.old errors.old requests.old) (tables rows.new errors.new requests.new) result }
+    ensures { DoesIn block s.now c st left tables.old tables.new result }
 {
-    let k = trivia::multiline_trivia(s, c.at, false);
-    braced(s, c, k, st, left, rows, errors, requests)
+    let p = Spot::<Lines>::new(s, Cursor { met: false, ..c });
+    braced(p, st, left, tables)
 }
 
 // What was tried from `c` on may be missing.
@@ -168,343 +136,223 @@ fn optional(c: Cursor, done: Done) -> Done
 
 // A block or nothing.
 #[cycle(statement)]
-fn maybe(
-    s: &[u8],
-    c: Cursor,
-    st: State,
-    left: usize,
-    rows: &mut [u32],
-    errors: &mut [u32],
-    requests: &mut [u32],
-) -> Done
+fn maybe(s: &[u8], c: Cursor, st: State, left: usize, tables: &mut Tables) -> Done
     requires { Fit 0 s.now c st }
-    ensures { Does (opt block) s.now c st left (tables rows.old errors.old requests.old) (tables rows.new errors.new requests.new) result }
+    ensures { DoesIn (opt block) s.now c st left tables.old tables.new result }
 {
-    let done = block(s, c, st, left, rows, errors, requests);
+    let done = block(s, c, st, left, tables);
     optional(c, done)
 }
 
 // `else` and its block.
 #[cycle(statement)]
-fn other(
-    s: &[u8],
-    c: Cursor,
-    st: State,
-    left: usize,
-    rows: &mut [u32],
-    errors: &mut [u32],
-    requests: &mut [u32],
-) -> Done
+fn other(s: &[u8], c: Cursor, st: State, left: usize, tables: &mut Tables) -> Done
     requires { Fit 0 s.now c st }
-    ensures { Does (directive "else" ▸ block) s.now c st left (tables rows.old errors.old requests.old) (tables rows.new errors.new requests.new) result }
+    ensures { DoesIn (directive "else" ▸ block) s.now c st left tables.old tables.new result }
 {
-    let k = trivia::multiline_trivia(s, c.at, false);
-    let read = head::directive::else_head(s, Cursor { met: false, ..c }, k, rows);
-    let (d, x) = lifted(s, st, read, errors)?;
-    block(s, d, x, left, rows, errors, requests)
+    let p = Spot::<Lines>::new(s, Cursor { met: false, ..c });
+    let read = head::directive::else_head(p, tables.rows);
+    let (d, x) = lifted(s, st, read, tables.errors)?;
+    block(s, d, x, left, tables)
 }
 
 // The branches of an if.
 #[cycle(statement)]
-fn branches(
-    s: &[u8],
-    c: Cursor,
-    st: State,
-    left: usize,
-    rows: &mut [u32],
-    errors: &mut [u32],
-    requests: &mut [u32],
-) -> Done
+fn branches(s: &[u8], c: Cursor, st: State, left: usize, tables: &mut Tables) -> Done
     requires { Fit 0 s.now c st }
-    ensures { Does (block ▸ opt (directive "else" ▸ block)) s.now c st left (tables rows.old errors.old requests.old) (tables rows.new errors.new requests.new) result }
+    ensures { DoesIn (block ▸ opt (directive "else" ▸ block)) s.now c st left tables.old tables.new result }
 {
-    let (d, x) = block(s, c, st, left, rows, errors, requests)?;
-    let done = other(s, d, x, left, rows, errors, requests);
+    let (d, x) = block(s, c, st, left, tables)?;
+    let done = other(s, d, x, left, tables);
     optional(d, done)
 }
 
 #[cycle(statement)]
-fn body(
-    s: &[u8],
-    c: Cursor,
-    b: Body,
-    st: State,
-    left: usize,
-    rows: &mut [u32],
-    errors: &mut [u32],
-    requests: &mut [u32],
-) -> Done
+fn body(s: &[u8], c: Cursor, b: Body, st: State, left: usize, tables: &mut Tables) -> Done
     requires { Fit 0 s.now c st }
-    ensures { Does (body_of b) s.now c st left (tables rows.old errors.old requests.old) (tables rows.new errors.new requests.new) result }
+    ensures { DoesIn (body_of b) s.now c st left tables.old tables.new result }
 {
     match b {
-        Body::Maybe => maybe(s, c, st, left, rows, errors, requests),
-        Body::Block => block(s, c, st, left, rows, errors, requests),
-        Body::Branches => branches(s, c, st, left, rows, errors, requests),
+        Body::Maybe => maybe(s, c, st, left, tables),
+        Body::Block => block(s, c, st, left, tables),
+        Body::Branches => branches(s, c, st, left, tables),
     }
 }
 
 // The rest of a statement whose head has answered h: what stands behind it, and the row around all.
 #[cycle(statement)]
-fn rest(
-    s: &[u8],
-    c: Cursor,
-    k: Skip,
-    h: Done,
-    form: Form,
-    left: usize,
-    rows: &mut [u32],
-    errors: &mut [u32],
-    requests: &mut [u32],
-) -> Done
-    requires skips { Skips multiline_trivia s.now c.at.0 false k }
-    requires headed { Headed s.now c h }
-    ensures { Ends form.body form.scope (kind_number form.kind) s.now c k h left (tables rows.old errors.old requests.old) (tables rows.new errors.new requests.new) result }
+fn rest(p: Spot<Lines>, h: Done, form: Form, left: usize, tables: &mut Tables) -> Done
+    requires sober { p.start.met ≡ false }
+    requires headed { Headed p.text.now p.start h }
+    ensures same { Same tables.old tables.new }
+    ensures does { Ends form.body form.scope (kind_number form.kind) p.entry.text.now p.entry.start p.entry.end h left (seen tables.old) (seen tables.new) result }
 {
     let (d, x) = h?;
-    let (e, y) = body(s, d, form.body, x, left, rows, errors, requests)?;
-    row::close(c, k, e, y, form.kind, form.scope, rows)
+    let (e, y) = body(p.text, d, form.body, x, left, tables)?;
+    row::close(p.start, p.end, e, y, form.kind, form.scope, tables.rows)
 }
 
 // A statement of a directive and an expression.
 #[cycle(statement)]
 fn directive(
-    s: &[u8],
-    c: Cursor,
-    k: Skip,
+    p: Spot<Lines>,
     word: &[u8],
     form: Form,
     st: State,
     left: usize,
-    rows: &mut [u32],
-    errors: &mut [u32],
-    requests: &mut [u32],
+    tables: &mut Tables,
 ) -> Done
-    requires fit { Fit 0 s.now c st }
-    requires skips { Skips multiline_trivia s.now c.at.0 false k × (1 ≤ length word.now) }
-    ensures { Does (closing form.scope (kind_number form.kind) (directive_of word.now) (expression ▸ body_of form.body)) s.now c st left (tables rows.old errors.old requests.old) (tables rows.new errors.new requests.new) result }
+    requires fit { Fit 0 p.text.now p.start st }
+    requires sober { p.start.met ≡ false × (1 ≤ length word.now) }
+    ensures { DoesIn (closing form.scope (kind_number form.kind) (directive_of word.now) (expression ▸ body_of form.body)) p.entry.text.now p.entry.start st left tables.old tables.new result }
 {
-    let start = Cursor { met: false, ..c };
-    let read = head::directive::directive_expression(s, start, k, word, left, rows);
-    let h = lifted(s, st, read, errors);
-    rest(s, c, k, h, form, left, rows, errors, requests)
+    let read = head::directive::directive_expression(p, word, left, tables.rows);
+    let h = lifted(p.text, st, read, tables.errors);
+    rest(p, h, form, left, tables)
 }
 
 #[cycle(statement)]
-fn braces(
-    s: &[u8],
-    c: Cursor,
-    k: Skip,
-    st: State,
-    left: usize,
-    rows: &mut [u32],
-    errors: &mut [u32],
-    requests: &mut [u32],
-) -> Done
-    requires fit { Fit 0 s.now c st }
-    requires skips { Skips multiline_trivia s.now c.at.0 false k }
-    ensures { Does braces s.now c st left (tables rows.old errors.old requests.old) (tables rows.new errors.new requests.new) result }
+fn braces(p: Spot<Lines>, st: State, left: usize, tables: &mut Tables) -> Done
+    requires fit { Fit 0 p.text.now p.start st }
+    requires sober { p.start.met ≡ false }
+    ensures { DoesIn braces p.entry.text.now p.entry.start st left tables.old tables.new result }
 {
-    let (d, x) = braced(s, c, k, st, left, rows, errors, requests)?;
-    row::close(c, k, d, x, Kind::Braces, true, rows)
+    let (d, x) = braced(p, st, left, tables)?;
+    row::close(p.start, p.end, d, x, Kind::Braces, true, tables.rows)
 }
 
 #[cycle(statement)]
-fn label(
-    s: &[u8],
-    c: Cursor,
-    k: Skip,
-    st: State,
-    left: usize,
-    rows: &mut [u32],
-    errors: &mut [u32],
-    requests: &mut [u32],
-) -> Done
-    requires fit { Fit 0 s.now c st }
-    requires skips { Skips multiline_trivia s.now c.at.0 false k }
-    ensures { Does label s.now c st left (tables rows.old errors.old requests.old) (tables rows.new errors.new requests.new) result }
+fn label(p: Spot<Lines>, st: State, left: usize, tables: &mut Tables) -> Done
+    requires fit { Fit 0 p.text.now p.start st }
+    requires sober { p.start.met ≡ false }
+    ensures { DoesIn label p.entry.text.now p.entry.start st left tables.old tables.new result }
 {
-    let read = head::definition::label_head(s, Cursor { met: false, ..c }, k, rows);
-    let h = lifted(s, st, read, errors);
-    rest(s, c, k, h, LABEL, left, rows, errors, requests)
+    let read = head::definition::label_head(p, tables.rows);
+    let h = lifted(p.text, st, read, tables.errors);
+    rest(p, h, LABEL, left, tables)
 }
 
 #[cycle(statement)]
-fn macro_of(
-    s: &[u8],
-    c: Cursor,
-    k: Skip,
-    st: State,
-    left: usize,
-    rows: &mut [u32],
-    errors: &mut [u32],
-    requests: &mut [u32],
-) -> Done
-    requires fit { Fit 0 s.now c st }
-    requires skips { Skips multiline_trivia s.now c.at.0 false k }
-    ensures { Does macro_definition s.now c st left (tables rows.old errors.old requests.old) (tables rows.new errors.new requests.new) result }
+fn macro_of(p: Spot<Lines>, st: State, left: usize, tables: &mut Tables) -> Done
+    requires fit { Fit 0 p.text.now p.start st }
+    requires sober { p.start.met ≡ false }
+    ensures { DoesIn macro_definition p.entry.text.now p.entry.start st left tables.old tables.new result }
 {
-    let read = head::definition::macro_head(s, Cursor { met: false, ..c }, k, rows);
-    let h = lifted(s, st, read, errors);
-    rest(s, c, k, h, MACRO, left, rows, errors, requests)
+    let read = head::definition::macro_head(p, tables.rows);
+    let h = lifted(p.text, st, read, tables.errors);
+    rest(p, h, MACRO, left, tables)
 }
 
 #[cycle(statement)]
-fn import(
-    s: &[u8],
-    c: Cursor,
-    k: Skip,
-    st: State,
-    left: usize,
-    rows: &mut [u32],
-    errors: &mut [u32],
-    requests: &mut [u32],
-) -> Done
-    requires fit { Fit 0 s.now c st }
-    requires skips { Skips multiline_trivia s.now c.at.0 false k }
-    ensures { Does import' s.now c st left (tables rows.old errors.old requests.old) (tables rows.new errors.new requests.new) result }
+fn import(p: Spot<Lines>, st: State, left: usize, tables: &mut Tables) -> Done
+    requires fit { Fit 0 p.text.now p.start st }
+    requires sober { p.start.met ≡ false }
+    ensures { DoesIn import' p.entry.text.now p.entry.start st left tables.old tables.new result }
 {
-    let read = head::import::import_head(s, Cursor { met: false, ..c }, k, rows);
-    let (d, x) = lifted(s, st, read, errors)?;
-    let quote = trivia::trivia(s, d.at, false);
-    let read = head::import::import_file(s, Cursor { met: false, ..d }, rows);
-    let (e, y) = lifted(s, x, read, errors)?;
+    let read = head::import::import_head(p, tables.rows);
+    let (d, x) = lifted(p.text, st, read, tables.errors)?;
+    let quote = trivia::trivia(p.text, d.at, false);
+    let read = head::import::import_file(p.text, Cursor { met: false, ..d }, tables.rows);
+    let (e, y) = lifted(p.text, x, read, tables.errors)?;
     let high = Pos(e.at.0 - 1);
-    let (j, z) = maybe(s, e, y, left, rows, errors, requests)?;
-    row::import(c, k, j, z, quote.at, high, rows, requests)
+    let (j, z) = maybe(p.text, e, y, left, tables)?;
+    row::import(
+        p.start,
+        p.end,
+        j,
+        z,
+        quote.at,
+        high,
+        tables.rows,
+        tables.requests,
+    )
 }
 
 // The alternatives from .import on.
 #[cycle(statement)]
-fn fourth(
-    s: &[u8],
-    c: Cursor,
-    k: Skip,
-    st: State,
-    left: usize,
-    rows: &mut [u32],
-    errors: &mut [u32],
-    requests: &mut [u32],
-) -> Done
-    requires fit { Fit 0 s.now c st }
-    requires skips { Skips multiline_trivia s.now c.at.0 false k }
-    ensures { Does from_import s.now c st left (tables rows.old errors.old requests.old) (tables rows.new errors.new requests.new) result }
+fn fourth(p: Spot<Lines>, st: State, left: usize, tables: &mut Tables) -> Done
+    requires fit { Fit 0 p.text.now p.start st }
+    requires sober { p.start.met ≡ false }
+    ensures { DoesIn from_import p.entry.text.now p.entry.start st left tables.old tables.new result }
 {
-    let st = match import(s, c, k, st, left, rows, errors, requests) {
+    let st = match import(p, st, left, tables) {
         Err(Stop::Miss(st)) => st,
         done => return done,
     };
-    let st = match quiet::texts(s, c, k, st, left, rows, errors) {
+    let st = match quiet::texts(p, st, left, tables.rows, tables.errors) {
         Err(Stop::Miss(st)) => st,
         done => return done,
     };
-    let st = match directive(s, c, k, b".test", TEST, st, left, rows, errors, requests) {
+    let st = match directive(p, b".test", TEST, st, left, tables) {
         Err(Stop::Miss(st)) => st,
         done => return done,
     };
-    quiet::checks(s, c, k, st, left, rows, errors)
+    quiet::checks(p, st, left, tables.rows, tables.errors)
 }
 
 // From .loop on.
 #[cycle(statement)]
-fn third(
-    s: &[u8],
-    c: Cursor,
-    k: Skip,
-    st: State,
-    left: usize,
-    rows: &mut [u32],
-    errors: &mut [u32],
-    requests: &mut [u32],
-) -> Done
-    requires fit { Fit 0 s.now c st }
-    requires skips { Skips multiline_trivia s.now c.at.0 false k }
-    ensures { Does from_loop s.now c st left (tables rows.old errors.old requests.old) (tables rows.new errors.new requests.new) result }
+fn third(p: Spot<Lines>, st: State, left: usize, tables: &mut Tables) -> Done
+    requires fit { Fit 0 p.text.now p.start st }
+    requires sober { p.start.met ≡ false }
+    ensures { DoesIn from_loop p.entry.text.now p.entry.start st left tables.old tables.new result }
 {
-    let st = match directive(s, c, k, b".loop", LOOP, st, left, rows, errors, requests) {
+    let st = match directive(p, b".loop", LOOP, st, left, tables) {
         Err(Stop::Miss(st)) => st,
         done => return done,
     };
-    let st = match directive(s, c, k, b".if", IF, st, left, rows, errors, requests) {
+    let st = match directive(p, b".if", IF, st, left, tables) {
         Err(Stop::Miss(st)) => st,
         done => return done,
     };
-    let read = head::directive::align(s, Cursor { met: false, ..c }, k, left, rows);
-    let st = match lifted(s, st, read, errors) {
+    let read = head::directive::align(p, left, tables.rows);
+    let st = match lifted(p.text, st, read, tables.errors) {
         Err(Stop::Miss(st)) => st,
         done => return done,
     };
-    fourth(s, c, k, st, left, rows, errors, requests)
+    fourth(p, st, left, tables)
 }
 
 // From .macro on.
 #[cycle(statement)]
-fn second(
-    s: &[u8],
-    c: Cursor,
-    k: Skip,
-    st: State,
-    left: usize,
-    rows: &mut [u32],
-    errors: &mut [u32],
-    requests: &mut [u32],
-) -> Done
-    requires fit { Fit 0 s.now c st }
-    requires skips { Skips multiline_trivia s.now c.at.0 false k }
-    ensures { Does from_macro s.now c st left (tables rows.old errors.old requests.old) (tables rows.new errors.new requests.new) result }
+fn second(p: Spot<Lines>, st: State, left: usize, tables: &mut Tables) -> Done
+    requires fit { Fit 0 p.text.now p.start st }
+    requires sober { p.start.met ≡ false }
+    ensures { DoesIn from_macro p.entry.text.now p.entry.start st left tables.old tables.new result }
 {
-    let st = match macro_of(s, c, k, st, left, rows, errors, requests) {
+    let st = match macro_of(p, st, left, tables) {
         Err(Stop::Miss(st)) => st,
         done => return done,
     };
-    let st = match quiet::calls(s, c, k, st, left, rows, errors) {
+    let st = match quiet::calls(p, st, left, tables.rows, tables.errors) {
         Err(Stop::Miss(st)) => st,
         done => return done,
     };
-    let st = match directive(
-        s,
-        c,
-        k,
-        b".segment",
-        SEGMENT,
-        st,
-        left,
-        rows,
-        errors,
-        requests,
-    ) {
+    let st = match directive(p, b".segment", SEGMENT, st, left, tables) {
         Err(Stop::Miss(st)) => st,
         done => return done,
     };
-    third(s, c, k, st, left, rows, errors, requests)
+    third(p, st, left, tables)
 }
 
 // One of the twenty statements. The trivia before it is read once.
 #[cycle(statement)]
-pub fn statement(
-    s: &[u8],
-    c: Cursor,
-    st: State,
-    left: usize,
-    rows: &mut [u32],
-    errors: &mut [u32],
-    requests: &mut [u32],
-) -> Done
+pub fn statement(s: &[u8], c: Cursor, st: State, left: usize, tables: &mut Tables) -> Done
     requires { Fit 0 s.now c st }
-    ensures { Does statement s.now c st left (tables rows.old errors.old requests.old) (tables rows.new errors.new requests.new) result }
+    ensures { DoesIn statement s.now c st left tables.old tables.new result }
 {
-    let k = trivia::multiline_trivia(s, c.at, false);
-    let st = match braces(s, c, k, st, left, rows, errors, requests) {
+    let p = Spot::<Lines>::new(s, Cursor { met: false, ..c });
+    let st = match braces(p, st, left, tables) {
         Err(Stop::Miss(st)) => st,
         done => return done,
     };
-    let st = match label(s, c, k, st, left, rows, errors, requests) {
+    let st = match label(p, st, left, tables) {
         Err(Stop::Miss(st)) => st,
         done => return done,
     };
-    let st = match quiet::instructions(s, c, k, st, left, rows, errors) {
+    let st = match quiet::instructions(p, st, left, tables.rows, tables.errors) {
         Err(Stop::Miss(st)) => st,
         done => return done,
     };
-    second(s, c, k, st, left, rows, errors, requests)
+    second(p, st, left, tables)
 }

@@ -8,6 +8,7 @@ ghost use Rattle.statement.specs.Shapes.{error_of};
 use crate::lift::lifted;
 use cursor::Cursor;
 use lexis::mark;
+use lexis::spot::{Lines, Spot};
 use state::{Done, ErrorCode, State};
 use table::{Kind, Pos};
 use trivia::class::Class;
@@ -24,18 +25,10 @@ fn error_text(
     requires { Fit 0 s.now c st }
     ensures { TellsLeaf (error_of (bit_of class)) s.now c st rows.old rows.new errors.old errors.new result }
 {
-    let k = trivia::multiline_trivia(s, c.at, false);
-    let read = mark::run(
-        s,
-        Cursor { met: false, ..c },
-        k,
-        class,
-        false,
-        Kind::Error,
-        rows,
-    );
+    let p = Spot::<Lines>::new(s, Cursor { met: false, ..c });
+    let read = mark::run(p, class, false, Kind::Error, rows);
     let (d, x) = lifted(s, st, read, errors)?;
-    let y = state::report(x, ErrorCode::UnexpectedText, k.at, d.at, errors);
+    let y = state::report(x, ErrorCode::UnexpectedText, p.end.at, d.at, errors);
     Ok((d, y))
 }
 

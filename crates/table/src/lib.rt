@@ -11,7 +11,7 @@ ghost use Rattle.table.specs.Kinds.{kind_number};
 ghost use Rattle.table.specs.Words.{pushed, replaced, row_record, error_record, request_record};
 ghost use Rattle.table.specs.Answers.{told};
 
-use reading::Refusal;
+use reading::{HasNumber, Refusal};
 
 pub mod column;
 
@@ -79,11 +79,11 @@ pub enum Kind {
     ConfigValue,
 }
 
-impl Kind {
-    pub fn number(self) -> u32
-        ensures { result ≡ kind_number self }
-    {
-        self as u32
+impl HasNumber for Kind {
+    ghost number = { kind_number };
+
+    fn number(&self) -> u32 {
+        *self as u32
     }
 }
 
@@ -94,12 +94,12 @@ pub const ERROR: usize = 3;
 
 pub const REQUEST: usize = 2;
 
-// A row with this number, if the table has room for it. Its line is filled in later. The room is not worked out: a division by the width takes
-// longer than the stores.
-pub fn push_row(
+// A row with this number and of this kind, or with any other number for the kind, if the table has room for it. Its line is filled in later. The
+// room is not worked out: a division by the width takes longer than the stores.
+pub fn push_row<K: HasNumber + Copy>(
     rows: &mut [u32],
     n: RowIndex,
-    kind: Kind,
+    kind: K,
     size: usize,
     tlow: Pos,
     low: Pos,
@@ -107,7 +107,7 @@ pub fn push_row(
     detail: usize,
 )
     requires { (n.0 < 2 ^ 32) × (size < 2 ^ 32) × (tlow.0 < 2 ^ 32) × (low.0 < 2 ^ 32) × (high.0 < 2 ^ 32) × (detail < 2 ^ 32) }
-    ensures { rows.new ≡ pushed row_width rows.old n.0 (row_record (kind_number kind) size tlow.0 low.0 high.0 detail) }
+    ensures { rows.new ≡ pushed row_width rows.old n.0 (row_record (K.number kind) size tlow.0 low.0 high.0 detail) }
 {
     let i = n.0 * ROW;
     if i + ROW <= rows.len() {
@@ -181,14 +181,16 @@ pub struct Subtree {
 #[derive(Clone, Copy, Debug, PartialEq, Eq)]
 pub struct NoSubtree(pub usize);
 
-impl Refusal for NoSubtree {
+impl HasNumber for NoSubtree {
     ghost number = { λ _. 13 };
-
-    ghost gives = { λ e. e.0 };
 
     fn number(&self) -> u32 {
         13
     }
+}
+
+impl Refusal for NoSubtree {
+    ghost gives = { λ e. e.0 };
 
     fn gives(&self) -> usize {
         self.0

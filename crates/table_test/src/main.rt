@@ -1,7 +1,7 @@
 // Walks row tables picked by hand with table::walk, and prints each answer.
 #![tactic(auto)]
 
-use reading::Refusal;
+use reading::{HasNumber, Refusal};
 use std::io;
 use std::io::{BufWriter, Write};
 

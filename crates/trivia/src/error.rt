@@ -2,7 +2,7 @@
 ghost use Rattle.std.specs.Prelude.{◌≡◌};
 ghost use Rattle.trivia.specs.Refusal.{number_of, gives_of};
 
-use reading::Refusal;
+use reading::{HasNumber, Refusal};
 
 // How long the text is; where its first high byte stands; where no item starts; how many items there are.
 #[derive(Clone, Copy, Debug, PartialEq, Eq)]
@@ -13,10 +13,8 @@ pub enum ItemsError {
     NoRoom(usize),
 }
 
-impl Refusal for ItemsError {
+impl HasNumber for ItemsError {
     ghost number = { number_of };
-
-    ghost gives = { gives_of };
 
     fn number(&self) -> u32 {
         match self {
@@ -26,6 +24,10 @@ impl Refusal for ItemsError {
             ItemsError::NoRoom(_) => 12,
         }
     }
+}
+
+impl Refusal for ItemsError {
+    ghost gives = { gives_of };
 
     fn gives(&self) -> usize {
         match *self {

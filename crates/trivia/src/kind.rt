@@ -2,6 +2,8 @@
 ghost use Rattle.std.specs.Prelude.{◌≡◌};
 ghost use Rattle.trivia.specs.Kind.{item_number};
 
+use reading::HasNumber;
+
 // The numbers are what a table of items has.
 #[derive(Clone, Copy, PartialEq, Eq)]
 pub enum ItemKind {
@@ -12,10 +14,10 @@ pub enum ItemKind {
     Unterminated,
 }
 
-impl ItemKind {
-    pub fn number(self) -> u32
-        ensures { result ≡ item_number self }
-    {
-        self as u32
+impl HasNumber for ItemKind {
+    ghost number = { item_number };
+
+    fn number(&self) -> u32 {
+        *self as u32
     }
 }

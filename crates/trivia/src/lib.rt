@@ -14,7 +14,7 @@ ghost use Rattle.trivia.specs.Piece.{Starts, Nothing, trivia_of};
 
 use crate::class::Class;
 use cursor::Skip;
-use reading::MAX_TEXT;
+use reading::{HasNumber, MAX_TEXT};
 use table::Pos;
 
 pub mod class;

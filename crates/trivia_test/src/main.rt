@@ -1,7 +1,7 @@
 // Runs trivia::items on texts and tables picked by hand, and prints each answer and the whole table. A table is sevens before the call.
 #![tactic(auto)]
 
-use reading::Refusal;
+use reading::{HasNumber, Refusal};
 use std::io;
 use std::io::{BufWriter, Write};
 use trivia::ItemsError;

@@ -8,7 +8,7 @@ use fields::Fields;
 use output::Tally;
 use parser::Reading;
 use parser::error::ReadError;
-use reading::Refusal;
+use reading::{HasNumber, Refusal};
 use std::io;
 use std::io::{BufWriter, Read, Write};
 

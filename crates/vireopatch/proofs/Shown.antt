@@ -1,9 +1,10 @@
 -- What a call's answer is in numbers is what its definition exports: one law for each call, of an answer and of a refusal.
-use mathlib.Core.List.{List}
+use mathlib.Core.List.{List, [], ◌∷◌}
 use mathlib.Core.Option.{Option}
 use mathlib.Core.Path.{◌≡◌, refl, ap, sym, ◌∙◌}
 use Prim.Native.Nat.{ℕ}
-use Rattle.std.specs.Prelude.{Result, Ok, Err}
+use Rattle.std.specs.Prelude.{get_or, count_by, Result, Ok, Err, None}
+use Rattle.std.specs.Option.{is_some, unwrap_or}
 use Rattle.std.specs.Result.{result_unwrap_or}
 use Rattle.reading.specs.Outcome.{Call, outcome}
 use Rattle.reading.specs.Number.{Base, number_value}
@@ -89,10 +90,14 @@ walk_shown (Err e) = refl
 
 abbrev shares_seen : Result SharesFound SharesError → SharesFound → SeenShares
 shares_seen r x =
-    seen_shares (code_of (told shares_number shares_gives r)) x.pooled.numerator x.pooled.denominator x.largest.count x.largest.first x.largest.second x.largest.third (given_of (told shares_number shares_gives r))
+    seen_shares (code_of (told shares_number shares_gives r)) x.pooled.numerator x.pooled.denominator (count_by is_some x.largest)
+    (unwrap_or (get_or x.largest 0 None) 0)
+    (unwrap_or (get_or x.largest 1 None) 0)
+    (unwrap_or (get_or x.largest 2 None) 0)
+    (given_of (told shares_number shares_gives r))
 
 pub shares_shown : (r : Result SharesFound SharesError)
-    → shares_seen r (result_unwrap_or r (record { pooled = record { numerator = 0; denominator = 0 }; largest = record { count = 0; first = 0; second = 0; third = 0 } })) ≡ exported_shares (shares_told r)
+    → shares_seen r (result_unwrap_or r (record { pooled = record { numerator = 0; denominator = 0 }; largest = None ∷ None ∷ None ∷ [] })) ≡ exported_shares (shares_told r)
 unfolding exported_shares
 shares_shown (Ok x) = refl
 shares_shown (Err e) = refl

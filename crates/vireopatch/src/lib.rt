@@ -14,8 +14,8 @@ ghost use Rattle.vireopatch.specs.Told.{told};
 
 use number::{NumberType, ValueError};
 use parser::Reading;
-use reading::Refusal;
-use share::{Fraction, Largest, SharesFound, TextWords};
+use reading::{HasNumber, Refusal};
+use share::{Fraction, SharesFound, TextWords};
 use table::{RowIndex, Subtree};
 
 // 0 for an answer, or the refusal's number.
@@ -146,19 +146,14 @@ pub extern "C" fn vireopatch_shares(
             numerator: 0,
             denominator: 0,
         },
-        largest: Largest {
-            count: 0,
-            first: 0,
-            second: 0,
-            third: 0,
-        },
+        largest: [None; 3],
     });
     *numerator = pooled.numerator;
     *denominator = pooled.denominator;
-    *count = largest.count;
-    *first = largest.first;
-    *second = largest.second;
-    *third = largest.third;
+    *count = largest.iter().filter(|i| i.is_some()).count();
+    *first = largest[0].unwrap_or(0);
+    *second = largest[1].unwrap_or(0);
+    *third = largest[2].unwrap_or(0);
     *given = given_of(&answer);
     code_of(&answer)
 }

@@ -28,7 +28,7 @@ fn show(out: &mut impl Write, cell: &[u8], w: Option<Word>) -> io::Result<()> {
     }
 }
 
-// What is picked of each cell of a text, and the rest of it that is shorter, which needs the place behind the last cell.
+// What is picked of each cell of a text. The last one is the rest of it, which is shorter and may be empty.
 fn cells<F: Fn(&[u8], Pos) -> Option<Word>>(
     out: &mut impl Write,
     s: &[u8],
@@ -38,12 +38,11 @@ fn cells<F: Fn(&[u8], Pos) -> Option<Word>>(
     requires width { (1 ≤ width) × (width ≤ 9) }
     requires callable { (t : _) (at : _) → at.0 ≤ length t.now → F.pre pick t at }
 {
-    let mut i = 0;
-    while i + width <= s.len() {
-        show(out, &s[i..i + width], pick(s, Pos(i)))?;
-        i += width;
+    for i in (0..=s.len()).step_by(width) {
+        let end = s.len().min(i + width);
+        show(out, &s[i..end], pick(s, Pos(i)))?;
     }
-    show(out, &s[i..], pick(s, Pos(i)))
+    Ok(())
 }
 
 fn main(rt: HostRuntime) -> io::Result<()> {

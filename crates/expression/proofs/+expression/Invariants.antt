@@ -63,8 +63,8 @@ decreases-chain l = l.left * 16 + part_rank l.level + 2
 
 abbrev pub invariant-chain-loop-e : goal.invariant-chain-loop-e
 invariant-chain-loop-e l =
-    Chained (operator_of l.level) (part_of l.level) l.s l.start.count.0 l.k.at.0 l.left l.initial.d.at.0 l.initial.d.count.0 l.initial.d.met l.initial.rows
+    Chained (operator_of l.level) (part_of l.level) l.p.text.now l.start.count.0 l.p.end.at.0 l.left l.initial.d.at.0 l.initial.d.count.0 l.initial.d.met l.initial.rows
     l.d.at.0 l.d.count.0 l.d.met l.rows
 
 abbrev pub decreases-chain-loop-e : goal.decreases-chain-loop-e
-decreases-chain-loop-e l = length l.s - l.d.at.0
+decreases-chain-loop-e l = length l.p.text.now - l.d.at.0

@@ -1,23 +1,19 @@
+use Rattle.reading.specs.Rules.{identifier_value}
+use Rattle.expression.specs.Path.{modified_path}
+use Rattle.expression.proofs.Parts.{path_solid}
 use mathlib.Core.Path.{refl}
-use Rattle.std.proofs.lemmas.Result.{err_from_is_err_and}
-use Rattle.expression.proofs.Parts.{path_solid, value_out, value_got}
-use Rattle.expression.proofs.Steps.{around_fits, ready_step}
-use native.Mathlib.Omega.{arith}
-use lib.Dec.{lit<}
-use Rattle.cursor.proofs.Laws.{stepped}
+use Rattle.cursor.proofs.Exits.{passed}
+use Rattle.cursor.proofs.Laws.{reads_leaf}
+use Rattle.expression.proofs.Steps.{leaf_out, leaf_got, whole_spans}
 use Rattle.expression.proofs.identifier_value.Goals as goal
 
 pub returns-in_err-d : goal.returns-in_err-d
-returns-in_err-d c =
-    let p = err_from_is_err_and c.from_residual.result c.from_residual.ensures.1 in
-    rw (p.1, p.2) (value_out c.args.c c.requires.ready.within c.in_err-d.ensures refl)
+unfolding identifier_value modified_path
+returns-in_err-d c = rw (passed c.from_residual.ensures.1) (leaf_out c.args.p.ready.within c.in_err-d.ensures refl)
 
 pub around-requires-clause-spans : goal.around-requires-clause-spans
-around-requires-clause-spans c =
-    let st = stepped path_solid c.in_ok-d.d c.requires.ready.within (c.in_ok-d.ensures.reading 0 0) refl in
-    around_fits c.requires.ready (ready_step c.requires.ready st) (omega (arith, st.grown)) _ c.requires.ready.within
+around-requires-clause-spans c = whole_spans path_solid c.args.p.ready (reads_leaf 0 c.in_ok-d.ensures) refl
 
 pub returns : goal.returns
-returns c =
-    let st = stepped path_solid c.in_ok-d.d c.requires.ready.within (c.in_ok-d.ensures.reading 0 0) refl in
-    value_got c.args.c c.requires.ready.within c.in_ok-d.d refl (omega (arith, st.grown)) c.in_ok-d.ensures c.around.ensures
+unfolding identifier_value modified_path
+returns c = leaf_got c.args.p.ready.within path_solid.quieted c.in_ok-d.ensures refl c.around.ensures

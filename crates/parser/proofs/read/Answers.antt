@@ -1,4 +1,5 @@
-use Rattle.parser.proofs.Ends.{long_meets, high_meets, scope_meets, level_meets, does_so, meets_lent}
+use Rattle.std.proofs.Common.{rules}
+use Rattle.parser.proofs.Ends.{long_meets, high_meets, scope_meets, level_meets, does_so, meets_lent, meets_back}
 use Rattle.parser.proofs.read.Goals as goal
 
 pub returns-then-text-gt-MAX_TEXT : goal.returns-then-text-gt-MAX_TEXT
@@ -19,10 +20,10 @@ returns-then-level-gt-MAX_LEVEL c =
 pub settle-requires : goal.settle-requires
 settle-requires c =
     does_so _ _ _ _ _ _ _ _ _ _ c.if-text-gt-MAX_TEXT.false c.in_default.ensures
-    c.if-scope-gt-MAX_SCOPE.false c.if-level-gt-MAX_LEVEL.false c.source_file-done.ensures
+    c.if-scope-gt-MAX_SCOPE.false c.if-level-gt-MAX_LEVEL.false c.source_file-done.ensures.does
 
 pub returns : goal.returns
 returns c =
-    meets_lent _ _ _ _ _ _ _ _ _ _ _ _ _ _ c.source_file-done.auto.rows c.source_file-done.auto.errors c.source_file-done.auto.requests
+    meets_back (meets_lent _ _ _ _ _ _ _ _ _ _ _ _ _ _ c.source_file-done.ensures.same.rows_length c.source_file-done.ensures.same.errors_length c.source_file-done.ensures.same.requests_length
     c.if-text-gt-MAX_TEXT.false c.in_default.ensures c.if-scope-gt-MAX_SCOPE.false
-    c.if-level-gt-MAX_LEVEL.false c.settle.ensures
+    c.if-level-gt-MAX_LEVEL.false c.settle.ensures.meets) _ _ _ (search rules) (search rules) (search rules)

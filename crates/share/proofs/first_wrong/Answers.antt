@@ -1,13 +1,17 @@
-use mathlib.Core.Path.{sym, ◌∙◌}
-use Rattle.share.proofs.Pool.{none_yet, not_wrong, wrong_found}
+-- What `find` says of the numbers of the range, with what the closure answers at each.
+use mathlib.Core.Path.{◌≡◌}
+use mathlib.Core.Bool.{true, false}
+use borrow.Author.Rules.{rules}
+use Rattle.std.proofs.lemmas.Iterator.{first_from_Range}
+use Rattle.share.specs.Shares.{trivia_of, length_of, wrong}
+use Rattle.share.proofs.Pool.{found_first}
 use Rattle.share.proofs.first_wrong.Goals as goal
 
-pub loop-i-init : goal.loop-i-init
-loop-i-init c = none_yet _
-
-pub returns-then-is_wrong : goal.returns-then-is_wrong
-returns-then-is_wrong c =
-    wrong_found _ _ _ _ _ c.loop-i-test.true c.loop-i.invariant c.of.ensures.0 c.of.ensures.1 (sym c.is_wrong.ensures ∙ c.if-is_wrong.true)
-
-pub loop-i-preserved : goal.loop-i-preserved
-loop-i-preserved c = not_wrong _ _ _ _ c.loop-i.invariant c.of.ensures.0 c.of.ensures.1 (sym c.is_wrong.ensures ∙ c.if-is_wrong.false)
+pub returns : goal.returns
+returns c =
+    let w = c.args.words.now in
+    rw (← c.count.ensures)
+    (found_first w _ _
+    (first_from_Range _ _ _ _ (λ i. wrong (trivia_of w i) (length_of w i) ≡ true) (λ i. wrong (trivia_of w i) (length_of w i) ≡ false) c.find.ensures.ran
+    (λ x q k. search rules)
+    (λ x q k. (search rules, search rules))))

@@ -1,6 +1,8 @@
--- The invariant: the three largest of the texts looked at.
-use Rattle.share.proofs.Ranks.{Held}
+-- The invariant: the largest of the texts looked at.
+use mathlib.Core.Path.{◌≡◌}
+use Rattle.share.specs.Shares.{ranked}
+use Rattle.share.specs.Steps.{largest_of}
 use Rattle.share.proofs.three_largest.Given as goal
 
 abbrev pub invariant-loop-i : goal.invariant-loop-i
-invariant-loop-i l = Held l.words l.i l.l
+invariant-loop-i l = l.largest ≡ largest_of (ranked l.words l.i)

@@ -1,14 +1,13 @@
 -- A report that meets the flag is lost, and any other is kept.
 use Rattle.state.proofs.Reports.{report_lost, report_kept}
 use mathlib.Core.Path.{sym}
-use Rattle.state.specs.Codes.{code_number}
 use Rattle.state.proofs.report.Goals as goal
 
 pub returns-then-st : goal.returns-then-st
-returns-then-st c = report_lost _ _ _ c.if-st.true
+returns-then-st g c = report_lost _ _ _ c.if-st.true
 
 pub returns : goal.returns
-returns c =
+returns g c =
     let args = c.args in
-    report_kept (record { code = code_number args.code; low = args.low.0; high = args.high.0 }) args.st _ c.if-st.false
+    report_kept _ args.st _ c.if-st.false
     (rw (sym c.number.ensures) c.push_error.ensures)

@@ -1,14 +1,12 @@
 use mathlib.Core.Path.{refl}
-use Rattle.std.proofs.lemmas.Result.{err_from_is_err_and}
+use Rattle.cursor.proofs.Exits.{passed}
 use native.Mathlib.Omega.{arith}
 use Rattle.statement.proofs.Tests.{eof_sober, eof_debt}
 use Rattle.statement.proofs.Drafts.{fit_count, lined_out, lined_got, numbered_behind, few_behind}
 use Rattle.statement.proofs.end.Goals as goal
 
 pub returns-in_err-d : goal.returns-in_err-d
-returns-in_err-d c =
-    let p = err_from_is_err_and c.from_residual.result c.from_residual.ensures.1 in
-    rw (p.1, p.2) (lined_out c.in_err-d.ensures refl)
+returns-in_err-d c = rw (passed c.from_residual.ensures.1) (lined_out c.in_err-d.ensures refl)
 
 pub overflow_add-n : goal.overflow_add-n
 overflow_add-n c =

@@ -16,8 +16,8 @@ inside h = omega (arith, h)
 
 pub returns-then-i-rows : goal.returns-then-i-rows
 unfolding pushed
-returns-then-i-rows c = simp (c.number.ensures, lt-ltb _ _ (inside c.if-i-rows.true), towards_suc)
+returns-then-i-rows g c = simp (c.number.ensures, lt-ltb _ _ (inside c.if-i-rows.true), towards_suc)
 
 pub returns-else-i-rows : goal.returns-else-i-rows
 unfolding pushed
-returns-else-i-rows c = simp (le-ltb _ _ (behind c.if-i-rows.false))
+returns-else-i-rows g c = simp (le-ltb _ _ (behind c.if-i-rows.false))

@@ -1,9 +1,5 @@
-use mathlib.Core.Path.{refl}
-use Rattle.literal.proofs.Exits.{passed}
-use Rattle.reading.specs.Rules.{name}
-use Rattle.cursor.proofs.Laws.{reads_leaf}
-use Rattle.head.proofs.Steps.{seq_stop, seq_on}
-use Rattle.head.proofs.Bounds.{paid_up, next}
+use Rattle.head.proofs.Steps.{flat_leaf, flat_passed, flat_on}
+use Rattle.head.proofs.Bounds.{flat_ready}
 use Rattle.head.specs.Heads.{word_of, directive_of, define_head}
 use Rattle.head.proofs.Tests.{word_solid, lines_quiet}
 use Rattle.reading.specs.Kind.{wordᵏ}
@@ -12,18 +8,12 @@ use Rattle.head.proofs.definition.define_head.Goals as goal
 
 pub returns-in_err-d : goal.returns-in_err-d
 unfolding define_head directive_of word_of
-returns-in_err-d c =
-    rw (passed c.from_residual.ensures.1) (record { reads = λ left. seq_stop (c.in_err-d.ensures.reads left) name refl })
+returns-in_err-d c = flat_passed c.in_err-d.ensures c.from_residual.ensures.1
 
 pub name-requires : goal.name-requires
 unfolding directive_of
-name-requires c =
-    (next (paid_up (word_solid wordᵏ 0 _ (lit≤ tt))) c.requires.ready (c.in_ok-d.ensures.reads 0) refl).ready
+name-requires c = flat_ready (word_solid wordᵏ 0 _ (lit≤ tt)) c.args.p.ready c.in_ok-d.ensures
 
 pub returns : goal.returns
 unfolding define_head directive_of word_of
-returns c =
-    record {
-      reads = λ left. seq_on (c.in_ok-d.ensures.reads left)
-          lines_quiet refl (reads_leaf left c.name.ensures);
-    }
+returns c = flat_on c.in_ok-d.ensures lines_quiet (flat_leaf c.name.ensures)

@@ -1,35 +1,25 @@
-use mathlib.Core.Path.{refl}
-use Rattle.literal.proofs.Exits.{passed}
-use Rattle.table.specs.Kinds.{kind_number}
-use Rattle.head.proofs.Wholes.{over_stop}
-use Rattle.head.specs.Heads.{directive_of}
-use Rattle.head.specs.Tails.{tail_of}
+use Rattle.head.proofs.Wholes.{over_passed}
 use Rattle.head.proofs.Tests.{tail_owing}
-use Rattle.head.proofs.Statements.{word_begins, rest_ready, rest_closable, rest_whole}
-use Rattle.reading.specs.Kind.{wordᵏ}
+use Rattle.head.proofs.Statements.{directive_begun, rest_ready, rest_closable, rest_whole}
 use lib.Dec.{lit≤}
 use Rattle.head.proofs.directive.worded.Goals as goal
 
 pub returns-in_err-d : goal.returns-in_err-d
-returns-in_err-d g c =
-    rw (passed c.from_residual.ensures.1) (over_stop (kind_number c.args.kind) (tail_of g.behind) (c.in_err-d.ensures.reads _) refl)
+returns-in_err-d g c = over_passed (c.in_err-d.ensures.reads _) c.from_residual.ensures.1
 
 pub tail-g-requires : goal.tail-g-requires
-unfolding directive_of
 tail-g-requires g c =
-    let h = word_begins (c.requires.1.0, c.requires.1.1.0) wordᵏ 0 _ c.requires.1.1.1.0 in
-    c.requires.1.1.1.1.0 _ _ (rest_ready h (c.in_ok-d.ensures.reads 0) refl)
+    let h = directive_begun c.args.p.ready c.args.p.skips _ c.requires.1.0 c.in_ok-d.ensures in
+    c.requires.1.1.0 _ _ (rest_ready h)
 
 pub whole-requires : goal.whole-requires
-unfolding directive_of
 whole-requires g c =
-    let h = word_begins (c.requires.1.0, c.requires.1.1.0) wordᵏ 0 _ c.requires.1.1.1.0 in
-    let b = c.requires.1.1.1.1.1 _ _ _ _ (rest_ready h (c.in_ok-d.ensures.reads 0) refl) c.tail-g.ensures in
-    rest_closable h (c.in_ok-d.ensures.reads _) refl (tail_owing g.behind) (lit≤ tt) b
+    let h = directive_begun c.args.p.ready c.args.p.skips _ c.requires.1.0 c.in_ok-d.ensures in
+    let b = c.requires.1.1.1 _ _ _ _ (rest_ready h) c.tail-g.ensures in
+    rest_closable h (tail_owing g.behind) (lit≤ tt) b
 
 pub returns : goal.returns
-unfolding directive_of
 returns g c =
-    let h = word_begins (c.requires.1.0, c.requires.1.1.0) wordᵏ 0 _ c.requires.1.1.1.0 in
-    let b = c.requires.1.1.1.1.1 _ _ _ _ (rest_ready h (c.in_ok-d.ensures.reads 0) refl) c.tail-g.ensures in
-    rest_whole h (c.in_ok-d.ensures.reads _) refl (tail_owing g.behind) (lit≤ tt) b (kind_number c.args.kind) c.whole.ensures
+    let h = directive_begun c.args.p.ready c.args.p.skips _ c.requires.1.0 c.in_ok-d.ensures in
+    let b = c.requires.1.1.1 _ _ _ _ (rest_ready h) c.tail-g.ensures in
+    rest_whole h (tail_owing g.behind) (lit≤ tt) b c.whole.ensures

@@ -1,10 +1,11 @@
 use mathlib.Core.Path.{ap, sym, ◌∙◌}
 use Rattle.std.specs.Prelude.{Err, is_err}
-use Rattle.literal.proofs.Exits.{passed}
+use Rattle.cursor.proofs.Exits.{passed}
 use native.Mathlib.Omega.{arith}
-use Rattle.cursor.proofs.Laws.{stepped, leaf_deep}
+use Rattle.cursor.proofs.Laws.{stepped}
 use Rattle.cursor.proofs.Loops.{listed_none, list_out, list_step, list_last, list_more}
 use Rattle.cursor.proofs.Rounds.{progress_ready}
+use Rattle.expression.proofs.Steps.{leaf_not_deep}
 use Rattle.head.proofs.Bounds.{paid_up, next}
 use Rattle.head.specs.Heads.{char_of}
 use Rattle.head.specs.Lists.{item_of}
@@ -56,4 +57,4 @@ returns-in-Err-Miss g c =
     }
 
 pub returns-in-Err-Deep : goal.returns-in-Err-Deep
-returns-in-Err-Deep g c = absurd (leaf_deep c.char.ensures (c.in-Err-Deep.is ∙ ap Err c.in-Err-Deep.field-0-is))
+returns-in-Err-Deep g c = leaf_not_deep c.char.ensures c.in-Err-Deep.is c.in-Err-Deep.field-0-is

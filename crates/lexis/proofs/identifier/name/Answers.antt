@@ -4,4 +4,4 @@ use Rattle.lexis.proofs.identifier.name.Goals as goal
 
 pub returns : goal.returns
 unfolding identifier_name
-returns c = c.name.ensures
+returns g c = c.name.ensures

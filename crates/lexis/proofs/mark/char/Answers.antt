@@ -4,12 +4,12 @@ use Rattle.lexis.proofs.Ends.{byte_at, byte_no}
 use Rattle.lexis.proofs.Marks.{behind_found, behind_none}
 use Rattle.lexis.proofs.mark.char.Goals as goal
 
-pub returns-then-byte_is : goal.returns-then-byte_is
-returns-then-byte_is c =
+pub returns-then-is : goal.returns-then-is
+returns-then-is g c =
     let b = c.args.b in
-    behind_found _ b tt (byte_at b _ _ (sym c.byte_is.ensures ∙ c.if-byte_is.true) _ refl) c.row.ensures
+    behind_found c.args.p.skips _ b tt (byte_at b _ _ (sym c.is.ensures ∙ c.if-is.true) _ refl) c.row.ensures
 
 pub returns : goal.returns
-returns c =
+returns g c =
     let b = c.args.b in
-    behind_none _ b (byte_no b _ _ (sym c.byte_is.ensures ∙ c.if-byte_is.false))
+    behind_none c.args.p.skips _ b c.miss.ensures (byte_no b _ _ (sym c.is.ensures ∙ c.if-is.false))

@@ -1,7 +1,7 @@
 -- Letters, digits and `-` are what a key is made of.
-use Rattle.reading.specs.Rules.{multiline_trivia, config_key}
+use Rattle.reading.specs.Rules.{config_key}
 use Rattle.operand.proofs.config_map.config_key.Goals as goal
 
 pub returns : goal.returns
 unfolding config_key
-returns c = c.name.ensures.leafs multiline_trivia c.requires.skips
+returns c = c.name.ensures

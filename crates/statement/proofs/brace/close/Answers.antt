@@ -1,5 +1,6 @@
-use mathlib.Core.Path.{ap, ◌∙◌}
-use Rattle.std.specs.Prelude.{Err}
+use mathlib.Core.Path.{ap}
+use Rattle.statement.proofs.Lifts.{fit_ready, fit_told, leaf_told}
+use Rattle.cursor.specs.declared.Cursor.{Cursor}
 use Rattle.statement.proofs.Parts.{shut_first, shut_missing}
 use Rattle.statement.proofs.Chains.{fit_next}
 use Rattle.statement.proofs.Tests.{mark_paid}
@@ -9,15 +10,24 @@ use native.Mathlib.Omega.{arith}
 use Rattle.statement.proofs.brace.close.Goals as goal
 
 pub returns-in_default : goal.returns-in_default
-returns-in_default c = shut_first c.in_default.ensures (λ m e. grind arith)
+returns-in_default c = shut_first (leaf_told c.new-p.ensures.text c.new-p.ensures.start c.in_default.ensures) (λ m e. grind arith)
 
 pub returns-in_default-2 : goal.returns-in_default-2
-returns-in_default-2 c = shut_first c.mark.ensures (λ m e. grind arith)
+returns-in_default-2 c = shut_first (leaf_told c.new-p.ensures.text c.new-p.ensures.start c.mark.ensures) (λ m e. grind arith)
 
 pub report-y-requires : goal.report-y-requires
 report-y-requires c =
-    let f = fit_next (c.mark.ensures.does 0 []) c.requires.fit (mark_paid 125).0 c.in-Err-Miss.x (c.in-Err-Miss.is ∙ ap Err c.in-Err-Miss.field-0-is) in
-    let k = fit_errors f in omega (arith, c.requires.fit.small, c.requires.fit.within, k)
+    let k = fit_errors (fit_next ((leaf_told c.new-p.ensures.text c.new-p.ensures.start c.mark.ensures).does 0 []) c.requires.fit (mark_paid 125).0 c.in-Err-Miss.is c.in-Err-Miss.field-0-is) in
+    omega (arith, c.requires.fit.small, c.requires.fit.within, k)
 
 pub returns : goal.returns
-returns c = shut_missing c.mark.ensures c.in-Err-Miss.x (c.in-Err-Miss.is ∙ ap Err c.in-Err-Miss.field-0-is) c.push_row.ensures c.report-y.ensures
+returns c = shut_missing (leaf_told c.new-p.ensures.text c.new-p.ensures.start c.mark.ensures) c.in-Err-Miss.is c.in-Err-Miss.field-0-is c.push_row.ensures c.report-y.ensures
+
+pub new-p-requires : goal.new-p-requires
+new-p-requires c = fit_ready c.requires.fit
+
+pub mark-requires-clause-fit : goal.mark-requires-clause-fit
+mark-requires-clause-fit c = fit_told c.new-p.ensures.text c.new-p.ensures.start c.requires.fit
+
+pub mark-requires-clause-sober : goal.mark-requires-clause-sober
+mark-requires-clause-sober c = ap (λ (k : Cursor). k.met) c.new-p.ensures.start

@@ -1,4 +1,4 @@
-use Rattle.statement.proofs.Lifts.{fit_lifts}
+use Rattle.statement.proofs.Lifts.{fit_lifts, leafs_sober}
 use Rattle.statement.proofs.Parts.{mark_tells}
 use Rattle.statement.proofs.brace.mark.Goals as goal
 
@@ -6,4 +6,4 @@ pub lifted-requires : goal.lifted-requires
 lifted-requires c = fit_lifts c.requires.fit
 
 pub returns : goal.returns
-returns c = mark_tells c.requires.fit c.requires.skips c.lifted.ensures _ c.char-read.ensures
+returns c = mark_tells c.requires.fit c.lifted.ensures _ (leafs_sober c.requires.sober c.char-read.ensures)

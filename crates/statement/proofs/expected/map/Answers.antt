@@ -1,7 +1,5 @@
-use native.Mathlib.Omega.{arith}
-use Rattle.state.proofs.Bounds.{fit_errors}
 use Rattle.statement.proofs.Lifts.{fit_lifts}
-use Rattle.statement.proofs.Quiets.{tells_expected, tried, tried_fit}
+use Rattle.statement.proofs.Quiets.{tells_expected, tried, tried_room}
 use Rattle.statement.proofs.Tests.{missing_calm}
 use Rattle.statement.proofs.expected.map.Goals as goal
 
@@ -9,10 +7,7 @@ pub lifted-done-requires : goal.lifted-done-requires
 lifted-done-requires c = fit_lifts c.requires
 
 pub expected-requires-clause-room : goal.expected-requires-clause-room
-expected-requires-clause-room c =
-    λ x z.
-    let k = fit_errors (tried_fit missing_calm.0 c.requires c.lifted-done.ensures c.config_map-read.ensures x z) in
-    omega (arith, c.requires.small, c.requires.within, k)
+expected-requires-clause-room c = tried_room missing_calm.0 c.requires c.lifted-done.ensures c.config_map-read.ensures
 
 pub returns : goal.returns
 returns c = tells_expected (tried missing_calm.0 c.requires c.lifted-done.ensures c.config_map-read.ensures) 4 c.expected.ensures

@@ -1,7 +1,7 @@
 use Prim.Native.Nat.{◌+◌, ◌*◌, ◌-◌, ◌≤◌}
 use lib.ListN.{length}
 use Rattle.reading.specs.Rules.{block_item}
-use Rattle.state.specs.Acts.{tables}
+use Rattle.state.specs.Lent.{seen, Same}
 use Rattle.state.proofs.Items.{Walking}
 use Rattle.statement.proofs.stmt.+statement.Given as goal
 
@@ -61,9 +61,10 @@ decreases-third l = l.left * 64 + 8
 
 abbrev pub invariant-items-loop-d : goal.invariant-items-loop-d
 invariant-items-loop-d l =
-    Walking block_item l.s l.left l.initial.next.at.0 l.initial.next.count.0 l.initial.state (tables l.initial.rows l.initial.errors l.initial.requests)
-    l.next.at.0 l.next.count.0 l.state (tables l.rows l.errors l.requests)
+    Walking block_item l.s l.left l.initial.next.at.0 l.initial.next.count.0 l.initial.state (seen l.initial.tables)
+    l.next.at.0 l.next.count.0 l.state (seen l.tables)
     × (1 ≤ l.next.at.0)
+    × Same l.initial.tables l.tables
 
 abbrev pub decreases-items-loop-d : goal.decreases-items-loop-d
 decreases-items-loop-d l = length l.s - l.next.at.0

@@ -6,4 +6,4 @@ pub lifted-requires : goal.lifted-requires
 lifted-requires c = fit_lifts c.requires
 
 pub returns : goal.returns
-returns c = eof_tells c.requires c.multiline_trivia-k.ensures c.lifted.ensures c.row-read.ensures
+returns c = eof_tells c.requires c.lifted.ensures c.multiline_trivia-k.ensures c.row-read.ensures

@@ -1,5 +1,7 @@
-use Rattle.statement.proofs.Parts.{error_is}
+use Rattle.reading.specs.Rules.{error}
+use Rattle.statement.specs.Shapes.{error_of}
 use Rattle.statement.proofs.text.error.Goals as goal
 
 pub returns : goal.returns
-returns c = error_is c.error_text.ensures
+unfolding error error_of
+returns c = c.error_text.ensures

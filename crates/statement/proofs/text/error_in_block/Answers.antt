@@ -1,5 +1,7 @@
-use Rattle.statement.proofs.Parts.{error_in_is}
+use Rattle.reading.specs.Rules.{error_in_block}
+use Rattle.statement.specs.Shapes.{error_of}
 use Rattle.statement.proofs.text.error_in_block.Goals as goal
 
 pub returns : goal.returns
-returns c = error_in_is c.error_text.ensures
+unfolding error_in_block error_of
+returns c = c.error_text.ensures

@@ -1,7 +1,7 @@
 use mathlib.Core.Path.{refl, sym, ◌∙◌}
 use Rattle.reading.specs.Byte.{bytes, digit}
 use Rattle.lexis.proofs.Ends.{or_at, or_no, some_at, some_no, word_at, word_no}
-use Rattle.literal.proofs.number.numeral.Goals as goal
+use Rattle.literal.proofs.numeral.numeral.Goals as goal
 
 pub returns-then-i-e : goal.returns-then-i-e
 returns-then-i-e c = or_at _ (some_at digit _ _ _ c.digits_end-e.ensures c.if-i-e.true)
