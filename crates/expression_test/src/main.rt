@@ -18,21 +18,22 @@ fn main(rt: HostRuntime) -> io::Result<()> {
     let mut out = BufWriter::new(rt.alloc(), io::writer(&rt))?;
     let mut input = Vec::new(rt.alloc());
     rt.reader().take(LONGEST).read_to_end(&mut input)?;
+    let mut rest = input.as_slice();
     for line in input.split_inclusive(|&b| b == b'\n') {
-        case(&mut out, line)?;
+        case(&mut out, rest, line)?;
+        rest = rest.get(line.len()..).unwrap_or(&[]);
     }
     out.flush()
 }
 
-// One line. The line feed behind the digits is none of a pair.
-fn case(out: &mut impl Write, line: &[u8]) -> io::Result<()> {
-    let [kind, tens, ones, digits @ ..] = line else {
-        return Ok(());
-    };
-    let low = usize::from(fields::digit(*tens)) * 10 + usize::from(fields::digit(*ones));
+// One line, the first of an input. The place's digits are those of the input, also where the line has none; the text's are the line's own.
+fn case(out: &mut impl Write, input: &[u8], line: &[u8]) -> io::Result<()> {
+    let line = line.strip_suffix(b"\n").unwrap_or(line);
+    let [kind, tens, ones] = [0, 1, 2].map(|i| input.get(i).copied().unwrap_or(0));
+    let low = usize::from(fields::digit(tens)) * 10 + usize::from(fields::digit(ones));
     let mut text = [0u8; 256];
-    let n = fields::put_hex(&mut text, digits);
-    part(out, *kind, &text[..n], low)
+    let n = fields::put_hex(&mut text, line.get(3..).unwrap_or(&[]));
+    part(out, kind, &text[..n], low)
 }
 
 // Reads the part that begins at a place.

@@ -1,46 +1,70 @@
 // The fields of a line of test cases: decimal numbers, each ended by a byte that is no digit; texts in hexadecimal digits, and in runs of bytes.
 #![tactic(auto)]
 
-ghost use Rattle.std.specs.Prelude.{◌≡◌, ◌↔◌, ◌≤◌, ◌<◌, length, IsTrue};
+ghost use Rattle.std.specs.Prelude.{◌≡◌, ◌↔◌, ◌≤◌, ◌<◌, length, take, IsTrue};
 ghost use Rattle.fields.specs.Fields.{ReadsOn};
 
 use std::marker::Model;
 
-// The fields of a line that are not read yet. The next one is empty where there is none, and the number 0.
+// A value from here on has 19 digits.
+const MOST: usize = 1000000000000000000;
+
+// The fields of a line that are not read yet. A field that the line lacks is read from what stands behind it; where nothing stands there it is
+// empty, and the number 0.
 #[derive(Drop)]
 pub struct Fields<'a> {
+    // What is not read yet of the input, and how many bytes of it stand behind the line.
     rest: &'a [u8],
+    behind: usize,
 }
 
 impl<'a> Model for Fields<'a> {
-    ghost use Rattle.std.specs.Prelude.{List, ℕ};
+    ghost use Rattle.std.specs.Prelude.{List, ℕ, ◌-◌, length, take};
 
     ghost Value = { List ℕ };
 
-    ghost view = { λ f. f.rest.now };
+    // What is left of the line.
+    ghost view = { λ f. take (length f.rest.now - f.behind) f.rest.now };
 }
 
 impl<'a> Fields<'a> {
-    pub fn new(line: &'a [u8]) -> Fields<'a>
-        ensures { result ≡ line.now }
+    // The line is the first so many bytes of the input.
+    pub fn new(input: &'a [u8], line: usize) -> Fields<'a>
+        ensures { result ≡ take line input.now }
     {
-        Fields { rest: line }
+        Fields {
+            rest: input,
+            behind: input.len().saturating_sub(line),
+        }
     }
 
+    // The line is read, or more.
     pub fn is_empty(&self) -> bool
         ensures { IsTrue result ↔ (length self.now ≡ 0) }
     {
-        self.rest.is_empty()
+        self.rest.len() <= self.behind
     }
 
-    // A decimal number, which ends before the next byte that is no digit. One that is too large is the largest.
+    // Just the line is read.
+    pub fn is_at_end(&self) -> bool
+        ensures { IsTrue result → (length self.now ≡ 0) }
+    {
+        self.rest.len() == self.behind
+    }
+
+    // A decimal number, which ends before the next byte that is no digit, or behind 19 digits.
     pub fn number(&mut self) -> usize
         ensures { ReadsOn self.old self.new }
     {
-        let digits = self.field(|&b| !b.is_ascii_digit());
-        digits.iter().fold(0, |n: usize, &b| {
-            n.saturating_mul(10).saturating_add(usize::from(digit(b)))
-        })
+        let mut value: usize = 0;
+        self.field(|&b| {
+            if !b.is_ascii_digit() || MOST <= value {
+                return true;
+            }
+            value = value * 10 + usize::from(digit(b));
+            false
+        });
+        value
     }
 
     // The field that ends before the next such byte.
@@ -98,12 +122,12 @@ pub fn digit(b: u8) -> u8
     }
 }
 
-// Puts the bytes of pairs of hexadecimal digits into the text, as far as there is room; how many.
+// Puts the bytes of pairs of hexadecimal digits into the text, as far as there is room; how many. A last digit alone has a 0 behind it.
 pub fn put_hex(text: &mut [u8], digits: &[u8]) -> usize
     ensures { result ≤ length text.old }
 {
-    for (byte, pair) in text.iter_mut().zip(digits.chunks_exact(2)) {
-        *byte = digit(pair[0]) * 16 + digit(pair[1]);
+    for (byte, pair) in text.iter_mut().zip(digits.chunks(2)) {
+        *byte = digit(pair[0]) * 16 + pair.get(1).map_or(0, |&b| digit(b));
     }
-    text.len().min(digits.len() / 2)
+    text.len().min(digits.len().div_ceil(2))
 }

@@ -59,7 +59,7 @@ module _ {s : List ℕ} {c : Cursor} {t t₁ : List ℕ} {r₁ : Read} (a : Leaf
   suffix_out h = record { reading = λ l lim. seq_out (a.reading l lim) register h }
 
   module _ (d : Cursor) (e : r₁ ≡ Ok d) where
-    pub comma_ready : Ready 8 s c → Ready 8 s d
+    pub comma_ready : {n : ℕ} → Ready n s c → Ready n s d
     comma_ready h = ready_on (char_solid false 44) d h (reads_leaf 0 a) e
 
     pub suffix_in : {t' : List ℕ} {r : Read} → Leafs register s d t₁ t' r → Leafs suffix s c t t' r

@@ -153,7 +153,7 @@ module _ (b : Bool) {s : List ℕ} {c : Cursor} {k : Skip} (x : Skips trivia s c
     quote_step h = stepped (char_solid false 34) d h (quote 0 0) e
 
     -- behind it the items may be read
-    pub quote_ready : Ready 8 s c → Ready 8 s d
+    pub quote_ready : {n : ℕ} → Ready n s c → Ready n s d
     quote_ready h = let y = quote_step h.within in record { small = h.small; within = y.within; few = omega (arith, h.few, y.rows) }
 
     module _ {t₂ : List ℕ} {r₂ : Read} (g : Leafs (many0 (item_of b)) s d t₁ t₂ r₂) where

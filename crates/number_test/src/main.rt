@@ -23,10 +23,11 @@ struct Body {
     numbers: usize,
 }
 
-// What is expected of a part. Where the text is read, the part is the body of a row.
+// What is expected of a part. Where the text is read, the part is the body of a row, and the row before it has the detail.
 #[derive(Clone, Copy)]
 struct Expected {
     body: Option<Body>,
+    detail: usize,
     ty: NumberType,
     low: usize,
     high: usize,
@@ -38,18 +39,18 @@ fn main(rt: HostRuntime) -> io::Result<()> {
     let mut input = Vec::new(rt.alloc());
     let mut text = [0u8; 262144];
     rt.reader().take(LONGEST).read_to_end(&mut input)?;
-    output::replay(&mut out, &input, |line| case(line, &mut text))?;
+    output::replay(&mut out, &input, |rest, line| case(rest, line, &mut text))?;
     out.flush()
 }
 
 // Between bytes that are digits in every base, and between bytes that are digits in none.
-fn case(line: &[u8], text: &mut [u8]) -> bool {
-    between(line, b'1', text) & between(line, b'x', text)
+fn case(input: &[u8], line: usize, text: &mut [u8]) -> bool {
+    between(input, line, b'1', text) & between(input, line, b'x', text)
 }
 
 // Lays the text between such bytes, and compares there.
-fn between(line: &[u8], around: u8, text: &mut [u8]) -> bool {
-    let mut fields = Fields::new(line);
+fn between(input: &[u8], line: usize, around: u8, text: &mut [u8]) -> bool {
+    let mut fields = Fields::new(input, line);
     let Some(expected) = expected_of(&mut fields) else {
         return false;
     };
@@ -63,17 +64,15 @@ fn between(line: &[u8], around: u8, text: &mut [u8]) -> bool {
 fn expected_of(fields: &mut Fields) -> Option<Expected> {
     let row = fields.number();
     let numbers = fields.number();
+    let detail = fields.number();
     Some(Expected {
         body: (row != 0).then_some(Body { row, numbers }),
-        ty: type_of(fields.number())?,
+        detail,
+        ty: NumberType::try_from((detail % 256) as u32).ok()?,
         low: fields.number(),
         high: fields.number(),
         answer: answer_of(fields.number(), fields.number())?,
     })
-}
-
-fn type_of(number: usize) -> Option<NumberType> {
-    NumberType::try_from(u32::try_from(number).ok()?).ok()
 }
 
 // A value where the refusal is 0; or the refusal of that number, and what it gives.
@@ -123,7 +122,7 @@ fn has(rows: &[[u32; ROW]], row: usize, e: Expected) -> bool {
         return false;
     };
     mark[column::KIND] == Kind::NumberType.number()
-        && mark[column::DETAIL] == e.ty.number()
+        && mark[column::DETAIL] as usize == e.detail
         && part[column::KIND] == Kind::NumberText.number()
         && part[column::LOW] as usize == e.low
         && part[column::HIGH] as usize == e.high

@@ -23,10 +23,18 @@ struct Refused {
     gives: usize,
 }
 
+// The pooled share, how many of the largest there are, and their indexes; 0 where there is none.
+#[derive(Clone, Copy, Debug, PartialEq, Eq)]
+struct Found {
+    pooled: Fraction,
+    count: usize,
+    largest: [usize; 3],
+}
+
 // The outcome that is expected of a list, and how many words it has.
 #[derive(Clone, Copy)]
 struct Expected {
-    outcome: Result<SharesFound, Refused>,
+    outcome: Result<Found, Refused>,
     words: usize,
 }
 
@@ -39,10 +47,10 @@ fn main(rt: HostRuntime) -> io::Result<()> {
 }
 
 // A list of texts is 0, a text is 1.
-fn case(line: &[u8]) -> bool {
+fn case(input: &[u8], line: usize) -> bool {
     let mut texts = [[0u32; TEXT]; 1024];
     let mut bytes = [0u8; 256];
-    let mut fields = Fields::new(line);
+    let mut fields = Fields::new(input, line);
     if fields.number() == 0 {
         return list(&mut fields, &mut texts);
     }
@@ -55,11 +63,19 @@ fn list(fields: &mut Fields, texts: &mut [[u32; TEXT]]) -> bool {
     let Some(words) = texts[..n].as_flattened().get(..e.words) else {
         return false;
     };
-    let outcome = share::shares(words).map_err(|e| Refused {
+    let outcome = share::shares(words).map(found_of).map_err(|e| Refused {
         number: e.number() as usize,
         gives: e.gives(),
     });
     outcome == e.outcome
+}
+
+fn found_of(x: SharesFound) -> Found {
+    Found {
+        pooled: x.pooled,
+        count: x.largest.iter().flatten().count(),
+        largest: x.largest.map(|index| index.unwrap_or(0)),
+    }
 }
 
 fn expected_of(fields: &mut Fields) -> Expected {
@@ -67,12 +83,13 @@ fn expected_of(fields: &mut Fields) -> Expected {
         number: fields.number(),
         gives: fields.number(),
     };
-    let found = SharesFound {
+    let found = Found {
         pooled: Fraction {
             numerator: fields.number() as u64,
             denominator: fields.number() as u64,
         },
-        largest: largest_of(fields),
+        count: fields.number(),
+        largest: [fields.number(), fields.number(), fields.number()],
     };
     Expected {
         outcome: if refused.number == 0 {
@@ -82,15 +99,6 @@ fn expected_of(fields: &mut Fields) -> Expected {
         },
         words: fields.number(),
     }
-}
-
-// How many there are, and three indexes of which so many count.
-fn largest_of(fields: &mut Fields) -> [Option<usize>; 3] {
-    let count = fields.number();
-    [0, 1, 2].map(|place| {
-        let index = fields.number();
-        (place < count).then_some(index)
-    })
 }
 
 // Puts the texts that are left of a line into the list, as far as there is room; how many there are. A run is how often a text comes, its trivia and
@@ -110,7 +118,7 @@ fn fill(fields: &mut Fields, texts: &mut [[u32; TEXT]]) -> usize
 }
 
 fn word(n: usize) -> u32 {
-    u32::try_from(n).unwrap_or(u32::MAX)
+    (n % 4294967296) as u32
 }
 
 fn text(fields: &mut Fields, bytes: &mut [u8]) -> bool {

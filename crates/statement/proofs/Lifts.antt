@@ -99,6 +99,20 @@ spans skip a =
 
 -- A place behind trivia, where no open comment was met before ----------------
 
+-- at the spot that `sober` gives
+module _ {s s' : List ℕ} {i n : ℕ} {c : Cursor} (e : s' ≡ s) (f : c ≡ cursor i n false) where
+  pub reads_clear : {g : Parser} {left : ℕ} {t t' : List ℕ} {r : Read} → Reads g s' c left t t' r → Reads g s (cursor i n false) left t t' r
+  reads_clear {g} {left} {t} {t'} {r} a = subst (λ (d : Cursor). Reads g s d left t t' r) f (subst (λ (s : List ℕ). Reads g s c left t t' r) e a)
+
+  pub flat_clear : {g : Parser} {t t' : List ℕ} {r : Read} → ((left : ℕ) → Reads g s' c left t t' r) → (left : ℕ) → Reads g s (cursor i n false) left t t' r
+  flat_clear a left = reads_clear (a left)
+
+  pub leafs_clear : {g : Parser} {t t' : List ℕ} {r : Read} → Leafs g s' c t t' r → Leafs g s (cursor i n false) t t' r
+  leafs_clear {g} {t} {t'} {r} a = subst (λ (d : Cursor). Leafs g s d t t' r) f (subst (λ (s : List ℕ). Leafs g s c t t' r) e a)
+
+  pub skips_clear : {g : Parser} {k : Skip} → Skips g s' c.at.0 c.met k → Skips g s i false k
+  skips_clear {g} {k} a = subst (λ (d : Cursor). Skips g s d.at.0 d.met k) f (subst (λ (s : List ℕ). Skips g s c.at.0 c.met k) e a)
+
 module _ {s : List ℕ} {c : Cursor} (e : c.met ≡ false) where
   pub reads_sober : {g : Parser} {left : ℕ} {t t' : List ℕ} {r : Read} → Reads g s c left t t' r → Reads g s (cursor c.at.0 c.count.0 false) left t t' r
   reads_sober {g} {left} {t} {t'} {r} a = subst (λ (m : Bool). Reads g s (cursor c.at.0 c.count.0 m) left t t' r) e a

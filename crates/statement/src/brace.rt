@@ -4,7 +4,7 @@ ghost use Rattle.reading.specs.Rules.{multiline_trivia};
 ghost use Rattle.state.specs.Acts.{Fit, TellsLeaf, Closes, opening};
 ghost use Rattle.statement.specs.Shapes.{mark_of};
 
-use crate::lift::lifted;
+use crate::lift::{lifted, sober};
 use cursor::{Cursor, Stop};
 use lexis::mark;
 use lexis::spot::{Lines, Spot};
@@ -13,11 +13,10 @@ use table::{Kind, Pos, RowIndex};
 
 // The byte b behind the trivia before it.
 pub fn mark(p: Spot<Lines>, st: State, b: u8, rows: &mut [u32], errors: &mut [u32]) -> Done
-    requires fit { Fit 0 p.text.now p.start st }
-    requires sober { p.start.met ≡ false }
+    requires { Fit 0 p.text.now p.start st }
     ensures { TellsLeaf (mark_of b) p.entry.text.now p.entry.start st rows.old rows.new errors.old errors.new result }
 {
-    let read = mark::char(p, b, rows);
+    let read = mark::char(sober(p), b, rows);
     lifted(p.text, st, read, errors)
 }
 

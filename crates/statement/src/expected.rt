@@ -7,7 +7,7 @@ ghost use Rattle.state.specs.Acts.{Fit, Tells};
 ghost use Rattle.state.specs.Codes.{code_number};
 ghost use Rattle.statement.specs.Shapes.{Expected};
 
-use crate::lift::lifted;
+use crate::lift::{lifted, sober};
 use crate::row;
 use cursor::{Cursor, Stop};
 use head::directive;
@@ -47,14 +47,14 @@ pub fn definition(
     rows: &mut [u32],
     errors: &mut [u32],
 ) -> Done
-    requires fit { Fit 0 p.text.now p.start st }
-    requires sober { p.start.met ≡ false }
+    requires { Fit 0 p.text.now p.start st }
     ensures { Tells config_definition p.entry.text.now p.entry.start st left rows.old rows.new errors.old errors.new result }
 {
-    let read = head::definition::define_head(p, rows);
+    let clear = sober(p);
+    let read = head::definition::define_head(clear, rows);
     let (d, x) = lifted(p.text, st, read, errors)?;
     let (e, y) = map(p.text, d, x, left, rows, errors)?;
-    row::close(p.start, p.end, e, y, Kind::Definition, false, rows)
+    row::close(p.start, clear.end, e, y, Kind::Definition, false, rows)
 }
 
 // Values, or a report.
@@ -69,12 +69,12 @@ fn values(s: &[u8], c: Cursor, st: State, left: usize, rows: &mut [u32], errors:
 }
 
 pub fn data(p: Spot<Lines>, st: State, left: usize, rows: &mut [u32], errors: &mut [u32]) -> Done
-    requires fit { Fit 0 p.text.now p.start st }
-    requires sober { p.start.met ≡ false }
+    requires { Fit 0 p.text.now p.start st }
     ensures { Tells data' p.entry.text.now p.entry.start st left rows.old rows.new errors.old errors.new result }
 {
-    let read = directive::data_head(p, rows);
+    let clear = sober(p);
+    let read = directive::data_head(clear, rows);
     let (d, x) = lifted(p.text, st, read, errors)?;
     let (e, y) = values(p.text, d, x, left, rows, errors)?;
-    row::close(p.start, p.end, e, y, Kind::Data, false, rows)
+    row::close(p.start, clear.end, e, y, Kind::Data, false, rows)
 }

@@ -1,11 +1,10 @@
 // Groups of statements that report nothing of their own: each is read without the state, and what it met is noted once behind it.
-ghost use Rattle.std.specs.Prelude.{false, ◌≡◌};
 ghost use Rattle.reading.specs.Grammar.{◌or◌};
 ghost use Rattle.reading.specs.Rules.{multiline_trivia, instruction, variable_definition, const_definition, pc_definition, config_definition, macro_invocation, data', text, file, assert, trace};
 ghost use Rattle.state.specs.Acts.{Fit, Tells};
 
 use crate::expected;
-use crate::lift::lifted;
+use crate::lift::{lifted, sober};
 use cursor::Stop;
 use head::{definition, directive, instruction};
 use lexis::spot::{Lines, Spot};
@@ -19,26 +18,26 @@ pub fn instructions(
     rows: &mut [u32],
     errors: &mut [u32],
 ) -> Done
-    requires fit { Fit 0 p.text.now p.start st }
-    requires sober { p.start.met ≡ false }
+    requires { Fit 0 p.text.now p.start st }
     ensures { Tells (instruction or variable_definition or const_definition or pc_definition or config_definition) p.entry.text.now p.entry.start st left rows.old rows.new errors.old errors.new result }
 {
-    let read = instruction::instruction(p, left, rows);
+    let clear = sober(p);
+    let read = instruction::instruction(clear, left, rows);
     let st = match lifted(p.text, st, read, errors) {
         Err(Stop::Miss(st)) => st,
         done => return done,
     };
-    let read = definition::variable_definition(p, left, rows);
+    let read = definition::variable_definition(clear, left, rows);
     let st = match lifted(p.text, st, read, errors) {
         Err(Stop::Miss(st)) => st,
         done => return done,
     };
-    let read = definition::const_definition(p, left, rows);
+    let read = definition::const_definition(clear, left, rows);
     let st = match lifted(p.text, st, read, errors) {
         Err(Stop::Miss(st)) => st,
         done => return done,
     };
-    let read = definition::pc_definition(p, left, rows);
+    let read = definition::pc_definition(clear, left, rows);
     let st = match lifted(p.text, st, read, errors) {
         Err(Stop::Miss(st)) => st,
         done => return done,
@@ -47,11 +46,11 @@ pub fn instructions(
 }
 
 pub fn calls(p: Spot<Lines>, st: State, left: usize, rows: &mut [u32], errors: &mut [u32]) -> Done
-    requires fit { Fit 0 p.text.now p.start st }
-    requires sober { p.start.met ≡ false }
+    requires { Fit 0 p.text.now p.start st }
     ensures { Tells (macro_invocation or data') p.entry.text.now p.entry.start st left rows.old rows.new errors.old errors.new result }
 {
-    let read = definition::macro_invocation(p, left, rows);
+    let clear = sober(p);
+    let read = definition::macro_invocation(clear, left, rows);
     let st = match lifted(p.text, st, read, errors) {
         Err(Stop::Miss(st)) => st,
         done => return done,
@@ -60,29 +59,29 @@ pub fn calls(p: Spot<Lines>, st: State, left: usize, rows: &mut [u32], errors: &
 }
 
 pub fn texts(p: Spot<Lines>, st: State, left: usize, rows: &mut [u32], errors: &mut [u32]) -> Done
-    requires fit { Fit 0 p.text.now p.start st }
-    requires sober { p.start.met ≡ false }
+    requires { Fit 0 p.text.now p.start st }
     ensures { Tells (text or file) p.entry.text.now p.entry.start st left rows.old rows.new errors.old errors.new result }
 {
-    let read = directive::text(p, left, rows);
+    let clear = sober(p);
+    let read = directive::text(clear, left, rows);
     let st = match lifted(p.text, st, read, errors) {
         Err(Stop::Miss(st)) => st,
         done => return done,
     };
-    let read = directive::file(p, rows);
+    let read = directive::file(clear, rows);
     lifted(p.text, st, read, errors)
 }
 
 pub fn checks(p: Spot<Lines>, st: State, left: usize, rows: &mut [u32], errors: &mut [u32]) -> Done
-    requires fit { Fit 0 p.text.now p.start st }
-    requires sober { p.start.met ≡ false }
+    requires { Fit 0 p.text.now p.start st }
     ensures { Tells (assert or trace) p.entry.text.now p.entry.start st left rows.old rows.new errors.old errors.new result }
 {
-    let read = directive::assert(p, left, rows);
+    let clear = sober(p);
+    let read = directive::assert(clear, left, rows);
     let st = match lifted(p.text, st, read, errors) {
         Err(Stop::Miss(st)) => st,
         done => return done,
     };
-    let read = directive::trace(p, left, rows);
+    let read = directive::trace(clear, left, rows);
     lifted(p.text, st, read, errors)
 }

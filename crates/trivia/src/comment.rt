@@ -72,29 +72,40 @@ fn starless_end(s: &[u8], at: Pos) -> Pos
     Pos(i)
 }
 
-// The end of the block comment, mark by mark. Comments nest, and no byte belongs to two marks.
+// The end of the block comment, mark by mark. Comments nest, and no byte belongs to two marks. The inner loop goes to the next slash or star. It leaves
+// both loops at the mark that closes the comment and at the text's end.
 fn marks_end(s: &[u8], at: Pos) -> Option<Pos>
     ensures { result ≡ closed s.now at.0 }
 {
     let last = s.len().saturating_sub(1);
     let mut open: usize = 0;
-    let mut i = starless_end(s, at).0;
-    while i < last {
-        match (s[i], s[i + 1]) {
-            (b'*', b'/') if open == 0 => return Some(Pos(i + 2)),
-            (b'*', b'/') => {
-                open -= 1;
-                i = starless_end(s, Pos(i + 2)).0;
+    let mut i = at.0;
+    'marks: loop {
+        i = starless_end(s, Pos(i)).0;
+        loop {
+            if last <= i {
+                break 'marks None;
             }
-            (b'/', b'*') => {
-                open += 1;
-                i = starless_end(s, Pos(i + 2)).0;
+            match (s[i], s[i + 1]) {
+                (b'*', b'/') if open == 0 => break 'marks Some(Pos(i + 2)),
+                (b'*', b'/') => {
+                    open -= 1;
+                    i += 2;
+                    break;
+                }
+                (b'/', b'*') => {
+                    open += 1;
+                    i += 2;
+                    break;
+                }
+                (b'*' | b'/', _) => {
+                    i += 1;
+                    break;
+                }
+                _ => i += 1,
             }
-            (b'*', _) => i = starless_end(s, Pos(i + 1)).0,
-            _ => i += 1,
         }
     }
-    None
 }
 
 // The end of the block comment whose mark stands right before `at`. One that nothing closes is found open at once.

@@ -9,14 +9,14 @@ use output::Tally;
 use parser::Reading;
 use parser::error::ReadError;
 use reading::{HasNumber, Refusal};
+use std::alloc::Global;
 use std::io;
 use std::io::{BufWriter, Read, Write};
 
-// The longest input; what lies behind it is not read.
-const LONGEST: u64 = 4194304;
+// The input is read in parts of so many bytes, one after the other, and no more parts than this. No case lies across two of them.
+const PART: u64 = 65536;
 
-// The input is in parts of so many bytes. No case lies across two of them.
-const PART: usize = 65536;
+const PARTS: usize = 64;
 
 // What every word of the tables is before a call, so that one left alone is seen.
 const FILL: u32 = 7;
@@ -55,9 +55,7 @@ struct Room {
 
 fn main(rt: HostRuntime) -> io::Result<()> {
     let mut out = BufWriter::new(rt.alloc(), io::writer(&rt))?;
-    let mut input = Vec::new(rt.alloc());
-    rt.reader().take(LONGEST).read_to_end(&mut input)?;
-    let tallies = cases(&mut out, &input)?;
+    let tallies = parts(rt.alloc(), &mut rt.reader(), &mut out)?;
     for (name, tally) in NAMES.iter().zip(&tallies) {
         let Tally { equal, different } = tally;
         writeln!(out, "{name} {equal} equal {different} different")?;
@@ -65,30 +63,50 @@ fn main(rt: HostRuntime) -> io::Result<()> {
     out.flush()
 }
 
-// A line that is empty, or a case.
-fn cases(out: &mut impl Write, input: &[u8]) -> io::Result<[Tally; KINDS + 1]> {
+fn parts(
+    alloc: Global,
+    from: &mut impl Read,
+    out: &mut impl Write,
+) -> io::Result<[Tally; KINDS + 1]> {
     let mut tallies = [Tally::default(); KINDS + 1];
+    for part in 0..PARTS {
+        let mut input = Vec::new(alloc);
+        if from.take(PART).read_to_end(&mut input)? == 0 {
+            break;
+        }
+        cases(out, &input, part, &mut tallies)?;
+    }
+    Ok(tallies)
+}
+
+// A line that is empty, or a case.
+fn cases(
+    out: &mut impl Write,
+    input: &[u8],
+    part: usize,
+    tallies: &mut [Tally; KINDS + 1],
+) -> io::Result<()> {
     let mut text = [0u8; 65537];
     let mut at: usize = 0;
+    let mut rest = input;
     for line in input.split_inclusive(|&b| b == b'\n') {
         if line != b"\n".as_slice() {
-            let mut fields = Fields::new(line);
+            let mut fields = Fields::new(rest, line.len());
             let kind = fields.number() % KINDS;
             let same = case(&mut fields, &mut text);
             if !same {
-                let part = at / PART;
-                let byte = at % PART;
-                writeln!(out, "different: part {part}, byte {byte}")?;
+                writeln!(out, "different: part {part}, byte {at}")?;
             }
             tallies[kind].count(same);
             tallies[KINDS].count(same);
         }
         at = at.wrapping_add(line.len());
+        rest = rest.get(line.len()..).unwrap_or(&[]);
     }
-    Ok(tallies)
+    Ok(())
 }
 
-// Whether a case is answered as expected, and nothing stands behind it.
+// Whether a case is answered as expected, by just the fields of its line.
 fn case(fields: &mut Fields, text: &mut [u8]) -> bool {
     let start = start_of(fields);
     let room = room_of(fields);
@@ -99,7 +117,7 @@ fn case(fields: &mut Fields, text: &mut [u8]) -> bool {
     // The bytes that have digits, then blanks.
     text.fill(b' ');
     fields::put_hex(text, fields.before(b' '));
-    read(fields, text, start, room) && fields.is_empty()
+    read(fields, text, start, room) && fields.is_at_end()
 }
 
 fn start_of(fields: &mut Fields) -> Start {
@@ -157,18 +175,13 @@ fn compare(
         Err(e) => {
             let number = e.number();
             let word = if number <= 4 { FILL } else { 0 };
-            next_is(fields, number as usize)
-                && next_is(fields, e.gives())
+            fields.number() == number as usize
+                && fields.number() == e.gives()
                 && all(rows, word)
                 && all(errors, word)
                 && all(requests, word)
         }
     }
-}
-
-// Whether the next field is there, and is this number.
-fn next_is(fields: &mut Fields, n: usize) -> bool {
-    !fields.is_empty() && fields.number() == n
 }
 
 fn all(words: &[u32], word: u32) -> bool {
@@ -183,12 +196,12 @@ fn answered(
     errors: &[u32],
     requests: &[u32],
 ) -> bool {
-    next_is(fields, 0)
-        && next_is(fields, x.rows)
-        && next_is(fields, x.errors)
-        && next_is(fields, x.requests)
-        && next_is(fields, x.scope)
-        && next_is(fields, usize::from(x.swallow))
+    fields.number() == 0
+        && fields.number() == x.rows
+        && fields.number() == x.errors
+        && fields.number() == x.requests
+        && fields.number() == x.scope
+        && fields.number() == usize::from(x.swallow)
         && words(fields, rows, x.rows, table::ROW)
         && words(fields, errors, x.errors, table::ERROR)
         && words(fields, requests, x.requests, table::REQUEST)
@@ -200,7 +213,7 @@ fn words(fields: &mut Fields, table: &[u32], n: usize, width: usize) -> bool
 {
     table.iter().enumerate().all(|(i, &word)| {
         if i / width < n {
-            next_is(fields, word as usize)
+            fields.number() == word as usize
         } else {
             word == 0
         }

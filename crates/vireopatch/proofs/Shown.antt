@@ -30,8 +30,10 @@ use Rattle.share.specs.declared.WordsError.{WordsError}
 use Rattle.vireopatch.specs.Seen.{code_of, given_of, Seen, seen, exported, base_numbered, value_in, seen_value, exported_value, SeenItems, seen_items, exported_items, SeenWalk, seen_walk, exported_walk, SeenShares, seen_shares, exported_shares, SeenWords, seen_words, exported_words}
 use Rattle.vireopatch.specs.Told.{told}
 
-pub same_numbers : {T E : Type 0} (number gives : E → ℕ) (a b : Result T E) → a ≡ b → told number gives a ≡ told number gives b
-same_numbers number gives a b e = ap (told number gives) e
+-- what is told of equal answers is equal, and so is what stands behind the pointers: the answer, or `none` of a refusal
+pub same_numbers : {T E : Type 0} (number gives : E → ℕ) (none : T) (a b : Result T E) → a ≡ b
+    → (told number gives a ≡ told number gives b) × (result_unwrap_or a none ≡ result_unwrap_or b none)
+same_numbers number gives none a b e = (ap (told number gives) e, ap (λ r. result_unwrap_or r none) e)
 
 -- Reading a text ------------------------------------------------------------
 

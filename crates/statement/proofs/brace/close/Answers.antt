@@ -26,8 +26,6 @@ returns c = shut_missing (leaf_told c.new-p.ensures.text c.new-p.ensures.start c
 pub new-p-requires : goal.new-p-requires
 new-p-requires c = fit_ready c.requires.fit
 
-pub mark-requires-clause-fit : goal.mark-requires-clause-fit
-mark-requires-clause-fit c = fit_told c.new-p.ensures.text c.new-p.ensures.start c.requires.fit
+pub mark-requires : goal.mark-requires
+mark-requires c = fit_told c.new-p.ensures.text c.new-p.ensures.start c.requires.fit
 
-pub mark-requires-clause-sober : goal.mark-requires-clause-sober
-mark-requires-clause-sober c = ap (λ (k : Cursor). k.met) c.new-p.ensures.start

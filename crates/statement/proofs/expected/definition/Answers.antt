@@ -1,30 +1,30 @@
 use mathlib.Core.Path.{refl}
 use mathlib.Core.List.{[]}
 use Rattle.cursor.proofs.Exits.{passed}
-use Rattle.statement.proofs.Lifts.{fit_lifts, lift_flat, spans, flat_sober, skips_sober}
+use Rattle.statement.proofs.Lifts.{fit_lifts, lift_flat, spans, flat_clear, skips_clear}
 use Rattle.statement.proofs.Tests.{head_quiet, define_paid, definition_paid}
 use Rattle.statement.proofs.Quiets.{tells_out, tells_then, definition_out, definition_got}
 use Rattle.statement.proofs.Chains.{reached, head_read}
 use Rattle.statement.proofs.expected.definition.Goals as goal
 
 pub returns-in_err-d : goal.returns-in_err-d
-returns-in_err-d c = rw (passed c.from_residual.ensures.1) (definition_out (tells_out (lift_flat head_quiet.1 c.requires.fit.within c.in_err-d.ensures (flat_sober c.requires.sober c.define_head-read.ensures.reads)) refl) refl)
+returns-in_err-d c = rw (passed c.from_residual.ensures.1) (definition_out (tells_out (lift_flat head_quiet.1 c.requires.within c.in_err-d.ensures (flat_clear c.sober-clear.ensures.text c.sober-clear.ensures.start c.define_head-read.ensures.reads)) refl) refl)
 
 pub map-requires : goal.map-requires
-map-requires c = (head_read head_quiet.1 define_paid c.requires.fit c.in_ok-d.ensures (flat_sober c.requires.sober c.define_head-read.ensures.reads)).reached.fit
+map-requires c = (head_read head_quiet.1 define_paid c.requires c.in_ok-d.ensures (flat_clear c.sober-clear.ensures.text c.sober-clear.ensures.start c.define_head-read.ensures.reads)).reached.fit
 
 pub returns-in_err-e : goal.returns-in_err-e
-returns-in_err-e c = rw (passed c.from_residual-in_err-e.ensures.1) (definition_out (tells_then (lift_flat head_quiet.1 c.requires.fit.within c.in_ok-d.ensures (flat_sober c.requires.sober c.define_head-read.ensures.reads)) c.in_err-e.ensures) refl)
+returns-in_err-e c = rw (passed c.from_residual-in_err-e.ensures.1) (definition_out (tells_then (lift_flat head_quiet.1 c.requires.within c.in_ok-d.ensures (flat_clear c.sober-clear.ensures.text c.sober-clear.ensures.start c.define_head-read.ensures.reads)) c.in_err-e.ensures) refl)
 
 pub close-requires : goal.close-requires
 close-requires c =
-    let a = tells_then (lift_flat head_quiet.1 c.requires.fit.within c.in_ok-d.ensures (flat_sober c.requires.sober c.define_head-read.ensures.reads)) c.in_ok-e.ensures in
-    spans (skips_sober c.requires.sober c.args.p.skips) (reached (a.does []) c.requires.fit definition_paid refl)
+    let a = tells_then (lift_flat head_quiet.1 c.requires.within c.in_ok-d.ensures (flat_clear c.sober-clear.ensures.text c.sober-clear.ensures.start c.define_head-read.ensures.reads)) c.in_ok-e.ensures in
+    spans (skips_clear c.sober-clear.ensures.text c.sober-clear.ensures.start c.sober-clear.result.skips) (reached (a.does []) c.requires definition_paid refl)
 
 pub returns : goal.returns
 returns c =
-    let a = tells_then (lift_flat head_quiet.1 c.requires.fit.within c.in_ok-d.ensures (flat_sober c.requires.sober c.define_head-read.ensures.reads)) c.in_ok-e.ensures in
-    definition_got a (skips_sober c.requires.sober c.args.p.skips) refl (reached (a.does []) c.requires.fit definition_paid refl).grown c.close.ensures
+    let a = tells_then (lift_flat head_quiet.1 c.requires.within c.in_ok-d.ensures (flat_clear c.sober-clear.ensures.text c.sober-clear.ensures.start c.define_head-read.ensures.reads)) c.in_ok-e.ensures in
+    definition_got a (skips_clear c.sober-clear.ensures.text c.sober-clear.ensures.start c.sober-clear.result.skips) refl (reached (a.does []) c.requires definition_paid refl).grown c.close.ensures
 
 pub lifted-requires : goal.lifted-requires
-lifted-requires c = fit_lifts c.requires.fit
+lifted-requires c = fit_lifts c.requires

@@ -112,8 +112,8 @@ fourth-returns-in_default t c = does_in (search rules) (fourth_is (does_first c.
 pub fourth-returns-in_default-2 : goal.fourth-returns-in_default-2
 fourth-returns-in_default-2 t c = does_in (search rules) (fourth_is (does_first c.import.ensures.does (λ m e. grind arith)))
 
-pub fourth-texts-requires-clause-fit : goal.fourth-texts-requires-clause-fit
-fourth-texts-requires-clause-fit t c = fit_next c.import.ensures.does c.requires.fit fourth_sober.0 c.in-Err-Miss.is c.in-Err-Miss.field-0-is
+pub fourth-texts-requires : goal.fourth-texts-requires
+fourth-texts-requires t c = fit_next c.import.ensures.does c.requires.fit fourth_sober.0 c.in-Err-Miss.is c.in-Err-Miss.field-0-is
 
 pub fourth-returns-in_default-texts : goal.fourth-returns-in_default-texts
 fourth-returns-in_default-texts t c = does_in (search rules) (fourth_is (does_next c.import.ensures.does c.in-Err-Miss.is c.in-Err-Miss.field-0-is (does_first (c.in_default-texts.ensures.does _) (λ m e. grind arith))))
@@ -135,8 +135,8 @@ pub fourth-returns-in_default-directive-2 : goal.fourth-returns-in_default-direc
 fourth-returns-in_default-directive-2 t c = does_in (search rules) (fourth_is (does_next c.import.ensures.does c.in-Err-Miss.is c.in-Err-Miss.field-0-is (does_next (c.texts.ensures.does _) c.in-Err-Miss-texts.is c.in-Err-Miss-texts.field-0-is
     (does_first (test_is c.directive.ensures.does) (λ m e. grind arith)))))
 
-pub fourth-checks-requires-clause-fit : goal.fourth-checks-requires-clause-fit
-fourth-checks-requires-clause-fit t c =
+pub fourth-checks-requires : goal.fourth-checks-requires
+fourth-checks-requires t c =
     let fit1 = fit_next c.import.ensures.does c.requires.fit fourth_sober.0 c.in-Err-Miss.is c.in-Err-Miss.field-0-is in
     let fit2 = fit_next (c.texts.ensures.does []) fit1 fourth_sober.1 c.in-Err-Miss-texts.is c.in-Err-Miss-texts.field-0-is in
     fit_next (test_is c.directive.ensures.does) fit2 fourth_sober.2 c.in-Err-Miss-directive.is c.in-Err-Miss-directive.field-0-is
@@ -314,8 +314,8 @@ second-returns-in_default t c = does_in (search rules) (second_is (does_first c.
 pub second-returns-in_default-2 : goal.second-returns-in_default-2
 second-returns-in_default-2 t c = does_in (search rules) (second_is (does_first c.macro_of.ensures.does (λ m e. grind arith)))
 
-pub second-calls-requires-clause-fit : goal.second-calls-requires-clause-fit
-second-calls-requires-clause-fit t c = fit_next c.macro_of.ensures.does c.requires.fit second_sober.0 c.in-Err-Miss.is c.in-Err-Miss.field-0-is
+pub second-calls-requires : goal.second-calls-requires
+second-calls-requires t c = fit_next c.macro_of.ensures.does c.requires.fit second_sober.0 c.in-Err-Miss.is c.in-Err-Miss.field-0-is
 
 pub second-returns-in_default-calls : goal.second-returns-in_default-calls
 second-returns-in_default-calls t c = does_in (search rules) (second_is (does_next c.macro_of.ensures.does c.in-Err-Miss.is c.in-Err-Miss.field-0-is (does_first (c.in_default-calls.ensures.does _) (λ m e. grind arith))))
@@ -362,8 +362,8 @@ statement-returns-in_default-label t c = does_in (search rules) (does_told c.new
 pub statement-returns-in_default-label-2 : goal.statement-returns-in_default-label-2
 statement-returns-in_default-label-2 t c = does_in (search rules) (does_told c.new-p.ensures.text c.new-p.ensures.start (statement_is (does_next c.braces.ensures.does c.in-Err-Miss.is c.in-Err-Miss.field-0-is (does_first c.label.ensures.does (λ m e. grind arith)))))
 
-pub statement-instructions-requires-clause-fit : goal.statement-instructions-requires-clause-fit
-statement-instructions-requires-clause-fit t c =
+pub statement-instructions-requires : goal.statement-instructions-requires
+statement-instructions-requires t c =
     let fit1 = fit_next c.braces.ensures.does (fit_told c.new-p.ensures.text c.new-p.ensures.start c.requires) first_sober.0 c.in-Err-Miss.is c.in-Err-Miss.field-0-is in
     fit_next c.label.ensures.does fit1 first_sober.1 c.in-Err-Miss-label.is c.in-Err-Miss-label.field-0-is
 
@@ -438,9 +438,6 @@ statement-new-p-requires t c = fit_ready c.requires
 
 pub statement-braces-requires : goal.statement-braces-requires
 statement-braces-requires t c = (omega arith, (fit_told c.new-p.ensures.text c.new-p.ensures.start c.requires, ap (λ (k : Cursor). k.met) c.new-p.ensures.start))
-
-pub statement-instructions-requires-clause-sober : goal.statement-instructions-requires-clause-sober
-statement-instructions-requires-clause-sober t c = ap (λ (k : Cursor). k.met) c.new-p.ensures.start
 
 pub block-new-p-requires : goal.block-new-p-requires
 block-new-p-requires t c = fit_ready c.requires
