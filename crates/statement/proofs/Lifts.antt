@@ -99,7 +99,7 @@ spans skip a =
 
 -- A place behind trivia, where no open comment was met before ----------------
 
--- at the spot that `sober` gives
+-- at a spot behind `clear`
 module _ {s s' : List ℕ} {i n : ℕ} {c : Cursor} (e : s' ≡ s) (f : c ≡ cursor i n false) where
   pub reads_clear : {g : Parser} {left : ℕ} {t t' : List ℕ} {r : Read} → Reads g s' c left t t' r → Reads g s (cursor i n false) left t t' r
   reads_clear {g} {left} {t} {t'} {r} a = subst (λ (d : Cursor). Reads g s d left t t' r) f (subst (λ (s : List ℕ). Reads g s c left t t' r) e a)
@@ -136,6 +136,9 @@ module _ {s s' : List ℕ} {c c' : Cursor} (e : s' ≡ s) (f : c' ≡ cursor c.a
   does_told {g} {st} {left} {T} {T'} {r} a =
       let b = subst (λ (s : List ℕ). Does g s (cursor c.at.0 c.count.0 false) st left T T' r) e (subst (λ (c : Cursor). Does g s' c st left T T' r) f a) in
       record { acting = b.acting }
+
+  pub tells_told : {g : Parser} {st : Counts} {left : ℕ} {t t' x x' : List ℕ} {r : Done} → Tells g s' c' st left t t' x x' r → Tells g s c st left t t' x x' r
+  tells_told a = record { does = λ q. does_told (a.does q) }
 
   pub leaf_told : {g : Parser} {st : Counts} {t t' x x' : List ℕ} {r : Done} → TellsLeaf g s' c' st t t' x x' r → TellsLeaf g s c st t t' x x' r
   leaf_told a = record { does = λ left q. does_told (a.does left q) }

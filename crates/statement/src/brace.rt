@@ -4,20 +4,23 @@ ghost use Rattle.reading.specs.Rules.{multiline_trivia};
 ghost use Rattle.state.specs.Acts.{Fit, TellsLeaf, Closes, opening};
 ghost use Rattle.statement.specs.Shapes.{mark_of};
 
-use crate::lift::{lifted, sober};
+use crate::lift::{clear, lifted};
 use cursor::{Cursor, Stop};
 use lexis::mark;
 use lexis::spot::{Lines, Spot};
 use state::{Done, ErrorCode, State};
 use table::{Kind, Pos, RowIndex};
 
-// The byte b behind the trivia before it.
-pub fn mark(p: Spot<Lines>, st: State, b: u8, rows: &mut [u32], errors: &mut [u32]) -> Done
+// The byte b behind the trivia before it. It is written out where it is called, so that no copy of the spot stands in a frame of the cycle.
+#[inline(always)]
+pub fn mark(mut p: Spot<Lines>, st: State, b: u8, rows: &mut [u32], errors: &mut [u32]) -> Done
     requires { Fit 0 p.text.now p.start st }
     ensures { TellsLeaf (mark_of b) p.entry.text.now p.entry.start st rows.old rows.new errors.old errors.new result }
 {
-    let read = mark::char(sober(p), b, rows);
-    lifted(p.text, st, read, errors)
+    let s = p.text;
+    clear(&mut p);
+    let read = mark::char(p, b, rows);
+    lifted(s, st, read, errors)
 }
 
 // The end of a block whose opening brace stands at `low`, behind trivia from `tlow`: the closing brace, or a report before the trivia and a

@@ -7,7 +7,7 @@ ghost use Rattle.state.specs.Acts.{Fit, Tells};
 ghost use Rattle.state.specs.Codes.{code_number};
 ghost use Rattle.statement.specs.Shapes.{Expected};
 
-use crate::lift::{lifted, sober};
+use crate::lift::{clear, lifted};
 use crate::row;
 use cursor::{Cursor, Stop};
 use head::directive;
@@ -41,7 +41,7 @@ fn map(s: &[u8], c: Cursor, st: State, left: usize, rows: &mut [u32], errors: &m
 }
 
 pub fn definition(
-    p: Spot<Lines>,
+    mut p: Spot<Lines>,
     st: State,
     left: usize,
     rows: &mut [u32],
@@ -50,11 +50,12 @@ pub fn definition(
     requires { Fit 0 p.text.now p.start st }
     ensures { Tells config_definition p.entry.text.now p.entry.start st left rows.old rows.new errors.old errors.new result }
 {
-    let clear = sober(p);
-    let read = head::definition::define_head(clear, rows);
-    let (d, x) = lifted(p.text, st, read, errors)?;
-    let (e, y) = map(p.text, d, x, left, rows, errors)?;
-    row::close(p.start, clear.end, e, y, Kind::Definition, false, rows)
+    let (s, c) = (p.text, p.start);
+    clear(&mut p);
+    let read = head::definition::define_head(p, rows);
+    let (d, x) = lifted(s, st, read, errors)?;
+    let (e, y) = map(s, d, x, left, rows, errors)?;
+    row::close(c, p.end, e, y, Kind::Definition, false, rows)
 }
 
 // Values, or a report.
@@ -68,13 +69,20 @@ fn values(s: &[u8], c: Cursor, st: State, left: usize, rows: &mut [u32], errors:
     expected(c, done, ErrorCode::ExpectedExpression, errors)
 }
 
-pub fn data(p: Spot<Lines>, st: State, left: usize, rows: &mut [u32], errors: &mut [u32]) -> Done
+pub fn data(
+    mut p: Spot<Lines>,
+    st: State,
+    left: usize,
+    rows: &mut [u32],
+    errors: &mut [u32],
+) -> Done
     requires { Fit 0 p.text.now p.start st }
     ensures { Tells data' p.entry.text.now p.entry.start st left rows.old rows.new errors.old errors.new result }
 {
-    let clear = sober(p);
-    let read = directive::data_head(clear, rows);
-    let (d, x) = lifted(p.text, st, read, errors)?;
-    let (e, y) = values(p.text, d, x, left, rows, errors)?;
-    row::close(p.start, clear.end, e, y, Kind::Data, false, rows)
+    let (s, c) = (p.text, p.start);
+    clear(&mut p);
+    let read = directive::data_head(p, rows);
+    let (d, x) = lifted(s, st, read, errors)?;
+    let (e, y) = values(s, d, x, left, rows, errors)?;
+    row::close(c, p.end, e, y, Kind::Data, false, rows)
 }

@@ -9,22 +9,30 @@ use lexis::spot::{Lines, Spot};
 use state::{Done, State};
 use table::Pos;
 
-// The spot for a reader without the state: no open comment was met before it.
+// Takes back that an open comment was met before the spot, for readers without the state.
 #[inline(always)]
-pub fn sober(p: Spot<Lines>) -> Spot<Lines>
+pub fn clear(p: &mut Spot<Lines>)
+    ensures text { p.new.text.now ≡ p.old.text.now }
+    ensures start { p.new.start ≡ cursor p.old.start.at.0 p.old.start.count.0 false }
+{
+    if p.start.met {
+        *p = anew(*p);
+    }
+}
+
+// The spot, with its trivia skipped once more. It is seldom asked for, and so stands apart.
+#[inline(never)]
+fn anew(p: Spot<Lines>) -> Spot<Lines>
     ensures text { result.text.now ≡ p.entry.text.now }
     ensures start { result.start ≡ cursor p.entry.start.at.0 p.entry.start.count.0 false }
 {
-    if p.start.met {
-        return Spot::new(
-            p.text,
-            Cursor {
-                met: false,
-                ..p.start
-            },
-        );
-    }
-    p
+    Spot::new(
+        p.text,
+        Cursor {
+            met: false,
+            ..p.start
+        },
+    )
 }
 
 // The answer of a reader that was called with no open comment met, and one note of what it met.

@@ -4,7 +4,7 @@ ghost use Rattle.reading.specs.Rules.{multiline_trivia, instruction, variable_de
 ghost use Rattle.state.specs.Acts.{Fit, Tells};
 
 use crate::expected;
-use crate::lift::{lifted, sober};
+use crate::lift::{clear, lifted};
 use cursor::Stop;
 use head::{definition, directive, instruction};
 use lexis::spot::{Lines, Spot};
@@ -12,7 +12,7 @@ use state::{Done, State};
 
 // Up to .define.
 pub fn instructions(
-    p: Spot<Lines>,
+    mut p: Spot<Lines>,
     st: State,
     left: usize,
     rows: &mut [u32],
@@ -21,67 +21,89 @@ pub fn instructions(
     requires { Fit 0 p.text.now p.start st }
     ensures { Tells (instruction or variable_definition or const_definition or pc_definition or config_definition) p.entry.text.now p.entry.start st left rows.old rows.new errors.old errors.new result }
 {
-    let clear = sober(p);
-    let read = instruction::instruction(clear, left, rows);
-    let st = match lifted(p.text, st, read, errors) {
+    let s = p.text;
+    clear(&mut p);
+    let read = instruction::instruction(p, left, rows);
+    let st = match lifted(s, st, read, errors) {
         Err(Stop::Miss(st)) => st,
         done => return done,
     };
-    let read = definition::variable_definition(clear, left, rows);
-    let st = match lifted(p.text, st, read, errors) {
+    let read = definition::variable_definition(p, left, rows);
+    let st = match lifted(s, st, read, errors) {
         Err(Stop::Miss(st)) => st,
         done => return done,
     };
-    let read = definition::const_definition(clear, left, rows);
-    let st = match lifted(p.text, st, read, errors) {
+    let read = definition::const_definition(p, left, rows);
+    let st = match lifted(s, st, read, errors) {
         Err(Stop::Miss(st)) => st,
         done => return done,
     };
-    let read = definition::pc_definition(clear, left, rows);
-    let st = match lifted(p.text, st, read, errors) {
+    let read = definition::pc_definition(p, left, rows);
+    let st = match lifted(s, st, read, errors) {
         Err(Stop::Miss(st)) => st,
         done => return done,
     };
     expected::definition(p, st, left, rows, errors)
 }
 
-pub fn calls(p: Spot<Lines>, st: State, left: usize, rows: &mut [u32], errors: &mut [u32]) -> Done
+pub fn calls(
+    mut p: Spot<Lines>,
+    st: State,
+    left: usize,
+    rows: &mut [u32],
+    errors: &mut [u32],
+) -> Done
     requires { Fit 0 p.text.now p.start st }
     ensures { Tells (macro_invocation or data') p.entry.text.now p.entry.start st left rows.old rows.new errors.old errors.new result }
 {
-    let clear = sober(p);
-    let read = definition::macro_invocation(clear, left, rows);
-    let st = match lifted(p.text, st, read, errors) {
+    let s = p.text;
+    clear(&mut p);
+    let read = definition::macro_invocation(p, left, rows);
+    let st = match lifted(s, st, read, errors) {
         Err(Stop::Miss(st)) => st,
         done => return done,
     };
     expected::data(p, st, left, rows, errors)
 }
 
-pub fn texts(p: Spot<Lines>, st: State, left: usize, rows: &mut [u32], errors: &mut [u32]) -> Done
+pub fn texts(
+    mut p: Spot<Lines>,
+    st: State,
+    left: usize,
+    rows: &mut [u32],
+    errors: &mut [u32],
+) -> Done
     requires { Fit 0 p.text.now p.start st }
     ensures { Tells (text or file) p.entry.text.now p.entry.start st left rows.old rows.new errors.old errors.new result }
 {
-    let clear = sober(p);
-    let read = directive::text(clear, left, rows);
-    let st = match lifted(p.text, st, read, errors) {
+    let s = p.text;
+    clear(&mut p);
+    let read = directive::text(p, left, rows);
+    let st = match lifted(s, st, read, errors) {
         Err(Stop::Miss(st)) => st,
         done => return done,
     };
-    let read = directive::file(clear, rows);
-    lifted(p.text, st, read, errors)
+    let read = directive::file(p, rows);
+    lifted(s, st, read, errors)
 }
 
-pub fn checks(p: Spot<Lines>, st: State, left: usize, rows: &mut [u32], errors: &mut [u32]) -> Done
+pub fn checks(
+    mut p: Spot<Lines>,
+    st: State,
+    left: usize,
+    rows: &mut [u32],
+    errors: &mut [u32],
+) -> Done
     requires { Fit 0 p.text.now p.start st }
     ensures { Tells (assert or trace) p.entry.text.now p.entry.start st left rows.old rows.new errors.old errors.new result }
 {
-    let clear = sober(p);
-    let read = directive::assert(clear, left, rows);
-    let st = match lifted(p.text, st, read, errors) {
+    let s = p.text;
+    clear(&mut p);
+    let read = directive::assert(p, left, rows);
+    let st = match lifted(s, st, read, errors) {
         Err(Stop::Miss(st)) => st,
         done => return done,
     };
-    let read = directive::trace(clear, left, rows);
-    lifted(p.text, st, read, errors)
+    let read = directive::trace(p, left, rows);
+    lifted(s, st, read, errors)
 }

@@ -1,4 +1,5 @@
-// The cycle of statements and blocks.
+// The cycle of statements and blocks. Each level of blocks has a frame of `statement`, `third`, `rest`, `block` and `braced` on the stack; a spot is lent to
+// those of them that take one, since a copy for a call stands in the caller's frame.
 ghost use Rattle.std.specs.Prelude.{false, ◌≡◌, ◌^◌, ◌≤◌, ◌<◌, length};
 ghost use Rattle.reading.specs.Grammar.{◌▸◌, many0};
 ghost use Rattle.reading.specs.Rules.{opt, multiline_trivia, directive, expression, block, block_item, braces, label, macro_definition, import', statement};
@@ -99,12 +100,12 @@ fn items(s: &[u8], c: Cursor, st: State, left: usize, tables: &mut Tables) -> Do
 
 // A block, its brace behind the trivia before it.
 #[cycle(statement)]
-fn braced(p: Spot<Lines>, st: State, left: usize, tables: &mut Tables) -> Done
-    requires fit { Fit 0 p.text.now p.start st }
-    requires sober { p.start.met ≡ false }
-    ensures { DoesIn block p.entry.text.now p.entry.start st left tables.old tables.new result }
+fn braced(p: &Spot<Lines>, st: State, left: usize, tables: &mut Tables) -> Done
+    requires fit { Fit 0 p.now.text.now p.now.start st }
+    requires sober { p.now.start.met ≡ false }
+    ensures { DoesIn block p.now.text.now p.now.start st left tables.old tables.new result }
 {
-    let (d, x) = brace::mark(p, st, b'{', tables.rows, tables.errors)?;
+    let (d, x) = brace::mark(*p, st, b'{', tables.rows, tables.errors)?;
     if left == 0 {
         return Err(Stop::Deep);
     }
@@ -121,7 +122,7 @@ fn block(s: &[u8], c: Cursor, st: State, left: usize, tables: &mut Tables) -> Do
     ensures { DoesIn block s.now c st left tables.old tables.new result }
 {
     let p = Spot::<Lines>::new(s, Cursor { met: false, ..c });
-    braced(p, st, left, tables)
+    braced(&p, st, left, tables)
 }
 
 // What was tried from `c` on may be missing.
@@ -181,75 +182,76 @@ fn body(s: &[u8], c: Cursor, b: Body, st: State, left: usize, tables: &mut Table
 
 // The rest of a statement whose head has answered h: what stands behind it, and the row around all.
 #[cycle(statement)]
-fn rest(p: Spot<Lines>, h: Done, form: Form, left: usize, tables: &mut Tables) -> Done
-    requires sober { p.start.met ≡ false }
-    requires headed { Headed p.text.now p.start h }
+fn rest(p: &Spot<Lines>, h: Done, form: Form, left: usize, tables: &mut Tables) -> Done
+    requires sober { p.now.start.met ≡ false }
+    requires headed { Headed p.now.text.now p.now.start h }
     ensures same { Same tables.old tables.new }
-    ensures does { Ends form.body form.scope (kind_number form.kind) p.entry.text.now p.entry.start p.entry.end h left (seen tables.old) (seen tables.new) result }
+    ensures does { Ends form.body form.scope (kind_number form.kind) p.now.text.now p.now.start p.now.end h left (seen tables.old) (seen tables.new) result }
 {
     let (d, x) = h?;
     let (e, y) = body(p.text, d, form.body, x, left, tables)?;
     row::close(p.start, p.end, e, y, form.kind, form.scope, tables.rows)
 }
 
-// A statement of a directive and an expression.
+// A statement of a directive and an expression. It is written out where it is called: it would be a frame more for each level.
 #[cycle(statement)]
+#[inline(always)]
 fn directive(
-    p: Spot<Lines>,
+    p: &Spot<Lines>,
     word: &[u8],
     form: Form,
     st: State,
     left: usize,
     tables: &mut Tables,
 ) -> Done
-    requires fit { Fit 0 p.text.now p.start st }
-    requires sober { p.start.met ≡ false × (1 ≤ length word.now) }
-    ensures { DoesIn (closing form.scope (kind_number form.kind) (directive_of word.now) (expression ▸ body_of form.body)) p.entry.text.now p.entry.start st left tables.old tables.new result }
+    requires fit { Fit 0 p.now.text.now p.now.start st }
+    requires sober { p.now.start.met ≡ false × (1 ≤ length word.now) }
+    ensures { DoesIn (closing form.scope (kind_number form.kind) (directive_of word.now) (expression ▸ body_of form.body)) p.now.text.now p.now.start st left tables.old tables.new result }
 {
-    let read = head::directive::directive_expression(p, word, left, tables.rows);
+    let read = head::directive::directive_expression(*p, word, left, tables.rows);
     let h = lifted(p.text, st, read, tables.errors);
     rest(p, h, form, left, tables)
 }
 
 #[cycle(statement)]
-fn braces(p: Spot<Lines>, st: State, left: usize, tables: &mut Tables) -> Done
-    requires fit { Fit 0 p.text.now p.start st }
-    requires sober { p.start.met ≡ false }
-    ensures { DoesIn braces p.entry.text.now p.entry.start st left tables.old tables.new result }
+fn braces(p: &Spot<Lines>, st: State, left: usize, tables: &mut Tables) -> Done
+    requires fit { Fit 0 p.now.text.now p.now.start st }
+    requires sober { p.now.start.met ≡ false }
+    ensures { DoesIn braces p.now.text.now p.now.start st left tables.old tables.new result }
 {
     let (d, x) = braced(p, st, left, tables)?;
     row::close(p.start, p.end, d, x, Kind::Braces, true, tables.rows)
 }
 
 #[cycle(statement)]
-fn label(p: Spot<Lines>, st: State, left: usize, tables: &mut Tables) -> Done
-    requires fit { Fit 0 p.text.now p.start st }
-    requires sober { p.start.met ≡ false }
-    ensures { DoesIn label p.entry.text.now p.entry.start st left tables.old tables.new result }
+fn label(p: &Spot<Lines>, st: State, left: usize, tables: &mut Tables) -> Done
+    requires fit { Fit 0 p.now.text.now p.now.start st }
+    requires sober { p.now.start.met ≡ false }
+    ensures { DoesIn label p.now.text.now p.now.start st left tables.old tables.new result }
 {
-    let read = head::definition::label_head(p, tables.rows);
+    let read = head::definition::label_head(*p, tables.rows);
     let h = lifted(p.text, st, read, tables.errors);
     rest(p, h, LABEL, left, tables)
 }
 
 #[cycle(statement)]
-fn macro_of(p: Spot<Lines>, st: State, left: usize, tables: &mut Tables) -> Done
-    requires fit { Fit 0 p.text.now p.start st }
-    requires sober { p.start.met ≡ false }
-    ensures { DoesIn macro_definition p.entry.text.now p.entry.start st left tables.old tables.new result }
+fn macro_of(p: &Spot<Lines>, st: State, left: usize, tables: &mut Tables) -> Done
+    requires fit { Fit 0 p.now.text.now p.now.start st }
+    requires sober { p.now.start.met ≡ false }
+    ensures { DoesIn macro_definition p.now.text.now p.now.start st left tables.old tables.new result }
 {
-    let read = head::definition::macro_head(p, tables.rows);
+    let read = head::definition::macro_head(*p, tables.rows);
     let h = lifted(p.text, st, read, tables.errors);
     rest(p, h, MACRO, left, tables)
 }
 
 #[cycle(statement)]
-fn import(p: Spot<Lines>, st: State, left: usize, tables: &mut Tables) -> Done
-    requires fit { Fit 0 p.text.now p.start st }
-    requires sober { p.start.met ≡ false }
-    ensures { DoesIn import' p.entry.text.now p.entry.start st left tables.old tables.new result }
+fn import(p: &Spot<Lines>, st: State, left: usize, tables: &mut Tables) -> Done
+    requires fit { Fit 0 p.now.text.now p.now.start st }
+    requires sober { p.now.start.met ≡ false }
+    ensures { DoesIn import' p.now.text.now p.now.start st left tables.old tables.new result }
 {
-    let read = head::import::import_head(p, tables.rows);
+    let read = head::import::import_head(*p, tables.rows);
     let (d, x) = lifted(p.text, st, read, tables.errors)?;
     let quote = trivia::trivia(p.text, d.at, false);
     let read = head::import::import_file(p.text, Cursor { met: false, ..d }, tables.rows);
@@ -270,16 +272,16 @@ fn import(p: Spot<Lines>, st: State, left: usize, tables: &mut Tables) -> Done
 
 // The alternatives from .import on.
 #[cycle(statement)]
-fn fourth(p: Spot<Lines>, st: State, left: usize, tables: &mut Tables) -> Done
-    requires fit { Fit 0 p.text.now p.start st }
-    requires sober { p.start.met ≡ false }
-    ensures { DoesIn from_import p.entry.text.now p.entry.start st left tables.old tables.new result }
+fn fourth(p: &Spot<Lines>, st: State, left: usize, tables: &mut Tables) -> Done
+    requires fit { Fit 0 p.now.text.now p.now.start st }
+    requires sober { p.now.start.met ≡ false }
+    ensures { DoesIn from_import p.now.text.now p.now.start st left tables.old tables.new result }
 {
     let st = match import(p, st, left, tables) {
         Err(Stop::Miss(st)) => st,
         done => return done,
     };
-    let st = match quiet::texts(p, st, left, tables.rows, tables.errors) {
+    let st = match quiet::texts(*p, st, left, tables.rows, tables.errors) {
         Err(Stop::Miss(st)) => st,
         done => return done,
     };
@@ -287,15 +289,15 @@ fn fourth(p: Spot<Lines>, st: State, left: usize, tables: &mut Tables) -> Done
         Err(Stop::Miss(st)) => st,
         done => return done,
     };
-    quiet::checks(p, st, left, tables.rows, tables.errors)
+    quiet::checks(*p, st, left, tables.rows, tables.errors)
 }
 
 // From .loop on.
 #[cycle(statement)]
-fn third(p: Spot<Lines>, st: State, left: usize, tables: &mut Tables) -> Done
-    requires fit { Fit 0 p.text.now p.start st }
-    requires sober { p.start.met ≡ false }
-    ensures { DoesIn from_loop p.entry.text.now p.entry.start st left tables.old tables.new result }
+fn third(p: &Spot<Lines>, st: State, left: usize, tables: &mut Tables) -> Done
+    requires fit { Fit 0 p.now.text.now p.now.start st }
+    requires sober { p.now.start.met ≡ false }
+    ensures { DoesIn from_loop p.now.text.now p.now.start st left tables.old tables.new result }
 {
     let st = match directive(p, b".loop", LOOP, st, left, tables) {
         Err(Stop::Miss(st)) => st,
@@ -305,7 +307,7 @@ fn third(p: Spot<Lines>, st: State, left: usize, tables: &mut Tables) -> Done
         Err(Stop::Miss(st)) => st,
         done => return done,
     };
-    let read = head::directive::align(p, left, tables.rows);
+    let read = head::directive::align(*p, left, tables.rows);
     let st = match lifted(p.text, st, read, tables.errors) {
         Err(Stop::Miss(st)) => st,
         done => return done,
@@ -315,16 +317,16 @@ fn third(p: Spot<Lines>, st: State, left: usize, tables: &mut Tables) -> Done
 
 // From .macro on.
 #[cycle(statement)]
-fn second(p: Spot<Lines>, st: State, left: usize, tables: &mut Tables) -> Done
-    requires fit { Fit 0 p.text.now p.start st }
-    requires sober { p.start.met ≡ false }
-    ensures { DoesIn from_macro p.entry.text.now p.entry.start st left tables.old tables.new result }
+fn second(p: &Spot<Lines>, st: State, left: usize, tables: &mut Tables) -> Done
+    requires fit { Fit 0 p.now.text.now p.now.start st }
+    requires sober { p.now.start.met ≡ false }
+    ensures { DoesIn from_macro p.now.text.now p.now.start st left tables.old tables.new result }
 {
     let st = match macro_of(p, st, left, tables) {
         Err(Stop::Miss(st)) => st,
         done => return done,
     };
-    let st = match quiet::calls(p, st, left, tables.rows, tables.errors) {
+    let st = match quiet::calls(*p, st, left, tables.rows, tables.errors) {
         Err(Stop::Miss(st)) => st,
         done => return done,
     };
@@ -342,11 +344,11 @@ pub fn statement(s: &[u8], c: Cursor, st: State, left: usize, tables: &mut Table
     ensures { DoesIn statement s.now c st left tables.old tables.new result }
 {
     let p = Spot::<Lines>::new(s, Cursor { met: false, ..c });
-    let st = match braces(p, st, left, tables) {
+    let st = match braces(&p, st, left, tables) {
         Err(Stop::Miss(st)) => st,
         done => return done,
     };
-    let st = match label(p, st, left, tables) {
+    let st = match label(&p, st, left, tables) {
         Err(Stop::Miss(st)) => st,
         done => return done,
     };
@@ -354,5 +356,5 @@ pub fn statement(s: &[u8], c: Cursor, st: State, left: usize, tables: &mut Table
         Err(Stop::Miss(st)) => st,
         done => return done,
     };
-    second(p, st, left, tables)
+    second(&p, st, left, tables)
 }

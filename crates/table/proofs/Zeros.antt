@@ -1,13 +1,11 @@
 -- Words that are written at once: zeros, and a record.
-use Rattle.std.proofs.Common.{◌≡◌, refl, ap, sym, ◌∙◌, List, ◌∷◌, ◌++◌, ℕ, zero, suc, ◌+◌, ◌*◌, ◌-◌, ◌≤◌, ◌<◌, length, take, drop, replicate, append-nil, append_assoc, arith}
+use Rattle.std.proofs.Common.{◌≡◌, refl, ap, sym, ◌∙◌, List, ◌∷◌, ◌++◌, ℕ, zero, suc, ◌+◌, ◌*◌, ◌-◌, ◌≤◌, ◌<◌, length, take, drop, replicate, append-nil, arith}
 use Rattle.std.proofs.lemmas.List.{drop-drop, drop_all, length-drop}
-use Rattle.std.proofs.lemmas.List.Edits.{sets-eq}
 use borrow.Rule.Slice.PartMut.{put_mid}
 use borrow.Author.Tests.{lt-ltb}
 use lib.Seq.{length-take-le, take_all}
 use Rattle.reading.specs.Table.{zeros, room}
-use Rattle.table.specs.Words.{pushed}
-use Rattle.table.proofs.Holds.{in_room}
+use Rattle.table.specs.Words.{pushed, put}
 
 pub zeros_are : (n : ℕ) → replicate n 0 ≡ zeros n
 zeros_are zero = refl
@@ -27,9 +25,8 @@ zeroed_part t v i h f =
     rw
     (f, length-take-le (length t - i) (drop i t) (omega (arith, length-drop i t)), drop-drop (length t - i) i t, zeros_are (length t - i), drop_all (i + (length t - i)) t (omega arith), append-nil)
 
--- words that are copied into a part of the table
-pub copied : (t ws v : List ℕ) (n w k : ℕ) → length ws ≡ w → k ≡ w → v ≡ ws → n < room w t → put_mid (n * w) k t v ≡ pushed w t n ws
+-- all words of a record have been put there, one behind the other
+pub all_put : (t u ws : List ℕ) (n w k : ℕ) → length ws ≡ w → w ≤ k → n < room w t → put u (n * w + k) (drop k ws) ≡ put t (n * w) ws → u ≡ pushed w t n ws
 unfolding pushed
-copied t ws v n w k e f g h =
-    rw (lt-ltb n (room w t) h, g, f, drop-drop w (n * w) t, ← e)
-    (sym (append_assoc (take (n * length ws) t) ws _) ∙ sym (sets-eq ws t (n * length ws) (omega (arith, in_room (length ws) t n (rw e h)))))
+all_put t u ws n w k e f h p =
+    rw (lt-ltb n (room w t) h) (sym (ap (put u (n * w + k)) (drop_all k ws (omega (arith, e, f)))) ∙ p)

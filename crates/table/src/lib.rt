@@ -142,7 +142,10 @@ pub fn push<const W: usize>(table: &mut [u32], n: usize, words: &[u32; W])
 {
     if n < table.len() / W {
         let i = n * W;
-        table[i..i + W].copy_from_slice(words);
+        // Word by word, so that they stay in registers: a copy of the slice reads them back from memory, in other widths than they were written.
+        for k in 0..W {
+            table[i + k] = words[k];
+        }
     }
 }
 

@@ -1,12 +1,14 @@
 -- The table of classes: what its bits say. The array of class.rt is this table: both are computed once.
-use mathlib.Core.Path.{◌≡◌, refl, ap, ◌∙◌, sym}
-use mathlib.Core.Bool.{Bool, beq, true, false, not}
+use mathlib.Core.Path.{◌≡◌, refl, ap, ap₂, ◌∙◌, sym}
+use mathlib.Core.Bool.{Bool, beq, true, false, not, ◌||◌}
 use mathlib.Core.List.{List, [], ◌∷◌}
 use Prim.Native.Nat.{ℕ, zero, suc, ◌+◌, ◌*◌, ◌/◌, ◌%◌, ◌^◌, ◌<◌}
 use native.Mathlib.Nat.{add-zero, add-suc, suc-add, zero-add, zero-div, div-div-eq-div-mul, pow-succ', le_of_suc-le-suc, not-suc-le-zero}
 use native.Mathlib.Omega.{arith}
 use lib.Dec.{eqb}
 use lib.ListN.{get_or}
+use lib.Bits.{bit_or}
+use Rattle.std.proofs.lemmas.Nat.{or_mod}
 use Rattle.trivia.specs.declared.class.TheConstants.{CLASSES}
 use Rattle.trivia.specs.Class.{classes, member, among, one_if, mask, bit, masks_from, table}
 
@@ -42,6 +44,21 @@ array = refl
 
 pub bit_is : (b n c : ℕ) → b < 256 → n ≡ c → bit (get_or CLASSES b 0) n ≡ member c b
 bit_is b n c h e = ap (λ t. bit (get_or t b 0) n) array ∙ ap (bit (get_or table b 0)) e ∙ rule b c h
+
+-- one of two bits
+one_of : (p q : ℕ) → p < 2 → q < 2 → eqb (bit_or p q) 1 ≡ eqb p 1 || eqb q 1
+one_of zero zero f g = refl
+one_of zero (suc zero) f g = refl
+one_of (suc zero) zero f g = refl
+one_of (suc zero) (suc zero) f g = refl
+one_of (suc (suc p)) q f g = absurd (not-suc-le-zero (le_of_suc-le-suc (le_of_suc-le-suc f)))
+one_of p (suc (suc q)) f g = absurd (not-suc-le-zero (le_of_suc-le-suc (le_of_suc-le-suc g)))
+
+pub either_is : (b n m c d : ℕ) → b < 256 → n ≡ c → m ≡ d → eqb (bit_or (get_or CLASSES b 0 / 2 ^ n) (get_or CLASSES b 0 / 2 ^ m) % 2) 1 ≡ member c b || member d b
+either_is b n m c d h e f =
+    let x : ℕ = get_or CLASSES b 0 / 2 ^ n in
+    let y : ℕ = get_or CLASSES b 0 / 2 ^ m in
+    ap (λ z. eqb z 1) (or_mod x y 1) ∙ one_of (x % 2) (y % 2) (omega arith) (omega arith) ∙ ap₂ ◌||◌ (bit_is b n c h e) (bit_is b m d h f)
 
 -- the bit is what is asked for
 beq_true : (x : Bool) → beq x true ≡ x

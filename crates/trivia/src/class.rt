@@ -1,5 +1,5 @@
 // The classes of bytes, and the table that has a bit for each. Here bytes are told apart.
-ghost use Rattle.std.specs.Prelude.{◌≡◌};
+ghost use Rattle.std.specs.Prelude.{◌≡◌, ◌||◌};
 ghost use Rattle.trivia.specs.Class.{bit_of, member, among, goes};
 
 // In the order of the table's bits. A closing brace ends error text too, in a block.
@@ -65,6 +65,14 @@ impl Class {
         (CLASSES[b as usize] >> self.bit()) % 2 == 1
     }
 
+    // The byte is of the class or of the other one: one look at the table. Of two, the compiler makes one look and a comparison, for each byte of a name.
+    fn either(self, other: Class, b: u8) -> bool
+        ensures { result ≡ member (bit_of self) b || member (bit_of other) b }
+    {
+        let bits = CLASSES[b as usize];
+        ((bits >> self.bit()) | (bits >> other.bit())) % 2 == 1
+    }
+
     // The byte is of the class if `inside` is set, and is not of it if not.
     pub fn among(self, b: u8, inside: bool) -> bool
         ensures { result ≡ among (bit_of self) inside b }
@@ -77,5 +85,5 @@ impl Class {
 pub fn goes_on(b: u8, also: u8) -> bool
     ensures { result ≡ goes also b }
 {
-    (Class::Letter.has(b) | Class::Digit.has(b)) | (b == also)
+    Class::Letter.either(Class::Digit, b) | (b == also)
 }

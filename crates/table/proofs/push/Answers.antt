@@ -2,11 +2,11 @@
 use Rattle.std.proofs.Common.{arith}
 use borrow.Author.Tests.{le-ltb}
 use Rattle.table.specs.Words.{pushed}
-use Rattle.table.proofs.Zeros.{copied}
+use Rattle.table.proofs.Zeros.{all_put}
 use Rattle.table.proofs.push.Goals as goal
 
-pub returns-then-n-table : goal.returns-then-n-table
-returns-then-n-table g c = copied _ _ _ _ _ _ c.told-words (omega arith) c.copy_from_slice.ensures.after c.if-n-table.true
+pub returns-after-loop-k : goal.returns-after-loop-k
+returns-after-loop-k g c = all_put _ _ _ _ _ _ c.told-words (omega arith) c.if-n-table.true c.loop-k.invariant.1
 
 pub returns-else-n-table : goal.returns-else-n-table
 unfolding pushed

@@ -1,6 +1,4 @@
-use mathlib.Core.Path.{ap}
 use Rattle.statement.proofs.Lifts.{fit_ready, fit_told, leaf_told}
-use Rattle.cursor.specs.declared.Cursor.{Cursor}
 use Rattle.statement.proofs.Parts.{shut_first, shut_missing}
 use Rattle.statement.proofs.Chains.{fit_next}
 use Rattle.statement.proofs.Tests.{mark_paid}
@@ -28,4 +26,3 @@ new-p-requires c = fit_ready c.requires.fit
 
 pub mark-requires : goal.mark-requires
 mark-requires c = fit_told c.new-p.ensures.text c.new-p.ensures.start c.requires.fit
-

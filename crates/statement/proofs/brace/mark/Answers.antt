@@ -6,4 +6,4 @@ pub lifted-requires : goal.lifted-requires
 lifted-requires c = fit_lifts c.requires
 
 pub returns : goal.returns
-returns c = mark_tells c.requires c.lifted.ensures _ (leafs_clear c.sober.ensures.text c.sober.ensures.start c.char-read.ensures)
+returns c = mark_tells c.requires c.lifted.ensures _ (leafs_clear c.clear.ensures.text c.clear.ensures.start c.char-read.ensures)

@@ -76,13 +76,13 @@ braced-returns t c =
     c.in_ok-j.ensures refl c.around-end.ensures)
 
 pub braces-returns-in_err-d : goal.braces-returns-in_err-d
-braces-returns-in_err-d t c = does_in (search rules) (rw (passed c.from_residual.ensures.1) (braces_out (skips_sober c.requires.sober c.args.p.skips) c.in_err-d.ensures.does refl))
+braces-returns-in_err-d t c = does_in (search rules) (rw (passed c.from_residual.ensures.1) (braces_out (skips_sober c.requires.sober c.args.p.now.skips) c.in_err-d.ensures.does refl))
 
 pub braces-close-requires : goal.braces-close-requires
-braces-close-requires t c = spans (skips_sober c.requires.sober c.args.p.skips) (reached c.in_ok-d.ensures.does c.requires.fit block_paid refl)
+braces-close-requires t c = spans (skips_sober c.requires.sober c.args.p.now.skips) (reached c.in_ok-d.ensures.does c.requires.fit block_paid refl)
 
 pub braces-returns : goal.braces-returns
-braces-returns t c = does_in (search rules) (braces_got (skips_sober c.requires.sober c.args.p.skips) c.in_ok-d.ensures.does refl (reached c.in_ok-d.ensures.does c.requires.fit block_paid refl).grown c.close.ensures)
+braces-returns t c = does_in (search rules) (braces_got (skips_sober c.requires.sober c.args.p.now.skips) c.in_ok-d.ensures.does refl (reached c.in_ok-d.ensures.does c.requires.fit block_paid refl).grown c.close.ensures)
 
 pub branches-returns-in_err-d : goal.branches-returns-in_err-d
 branches-returns-in_err-d t c = does_in (search rules) (rw (passed c.from_residual.ensures.1) (does_out c.in_err-d.ensures.does refl))
@@ -104,7 +104,7 @@ directive-rest-requires t c =
 pub directive-returns : goal.directive-returns
 directive-returns t c =
     let h = lift (directive_quiet _) c.requires.fit.within c.lifted-h.ensures (reads_sober c.requires.sober.0 c.directive_expression-read.ensures) in
-    does_in (search rules) (directive_ends (skips_sober c.requires.sober.0 c.args.p.skips) _ (h.does _) c.rest.ensures.does)
+    does_in (search rules) (directive_ends (skips_sober c.requires.sober.0 c.args.p.now.skips) _ (h.does _) c.rest.ensures.does)
 
 pub fourth-returns-in_default : goal.fourth-returns-in_default
 fourth-returns-in_default t c = does_in (search rules) (fourth_is (does_first c.in_default.ensures.does (λ m e. grind arith)))
@@ -191,7 +191,7 @@ import-import-requires-clause-spans t c =
     let h = head_read head_quiet.4 import_paid c.requires.fit c.in_ok-d.ensures (flat_sober c.requires.sober c.import_head-read.ensures.reads) in
     let n = head_read head_quiet.5 quoted_paid h.reached.fit c.in_ok-e.ensures c.import_file-read.ensures.reads in
     let b = reached c.in_ok-j.ensures.does n.reached.fit maybe_paid refl in
-    spans (skips_sober c.requires.sober c.args.p.skips) (reached_then h.reached (reached_then n.reached b))
+    spans (skips_sober c.requires.sober c.args.p.now.skips) (reached_then h.reached (reached_then n.reached b))
 
 pub import-import-requires-clause-words : goal.import-import-requires-clause-words
 import-import-requires-clause-words t c =
@@ -205,7 +205,7 @@ import-returns t c =
     let h = head_read head_quiet.4 import_paid c.requires.fit c.in_ok-d.ensures (flat_sober c.requires.sober c.import_head-read.ensures.reads) in
     let n = head_read head_quiet.5 quoted_paid h.reached.fit c.in_ok-e.ensures c.import_file-read.ensures.reads in
     let b = reached c.in_ok-j.ensures.does n.reached.fit maybe_paid refl in
-    does_in (search rules) (import_all (h.tells.does _ _) refl (n.tells.does _ _) refl c.in_ok-j.ensures.does (skips_sober c.requires.sober c.args.p.skips) c.trivia-quote.ensures h.reached.fit.within refl
+    does_in (search rules) (import_all (h.tells.does _ _) refl (n.tells.does _ _) refl c.in_ok-j.ensures.does (skips_sober c.requires.sober c.args.p.now.skips) c.trivia-quote.ensures h.reached.fit.within refl
     (reached_then h.reached (reached_then n.reached b)).grown _ refl c.import.ensures)
 
 pub item-returns-in_default : goal.item-returns-in_default
@@ -253,7 +253,7 @@ label-rest-requires t c =
 pub label-returns : goal.label-returns
 label-returns t c =
     let h = lift_flat head_quiet.0 c.requires.fit.within c.lifted-h.ensures (flat_sober c.requires.sober c.label_head-read.ensures.reads) in
-    does_in (search rules) (label_ends (skips_sober c.requires.sober c.args.p.skips) (h.does _ _) c.rest.ensures.does)
+    does_in (search rules) (label_ends (skips_sober c.requires.sober c.args.p.now.skips) (h.does _ _) c.rest.ensures.does)
 
 pub macro_of-lifted-h-requires : goal.macro_of-lifted-h-requires
 macro_of-lifted-h-requires t c = fit_lifts c.requires.fit
@@ -266,7 +266,7 @@ macro_of-rest-requires t c =
 pub macro_of-returns : goal.macro_of-returns
 macro_of-returns t c =
     let h = lift_flat head_quiet.2 c.requires.fit.within c.lifted-h.ensures (flat_sober c.requires.sober c.macro_head-read.ensures.reads) in
-    does_in (search rules) (macro_ends (skips_sober c.requires.sober c.args.p.skips) (h.does _ _) c.rest.ensures.does)
+    does_in (search rules) (macro_ends (skips_sober c.requires.sober c.args.p.now.skips) (h.does _ _) c.rest.ensures.does)
 
 pub maybe-returns : goal.maybe-returns
 maybe-returns t c = does_in (search rules) (does_optional c.block-done.ensures.does c.optional.ensures)
@@ -300,7 +300,7 @@ pub rest-close-requires : goal.rest-close-requires
 rest-close-requires t c =
     let h = headed_reached c.requires.headed c.in_ok-d.was in
     let b = reached c.in_ok-e.ensures.does h.fit (body_paid c.args.form.body) refl in
-    spans (skips_sober c.requires.sober c.args.p.skips) (reached_then h b)
+    spans (skips_sober c.requires.sober c.args.p.now.skips) (reached_then h b)
 
 pub rest-returns-clause-does : goal.rest-returns-clause-does
 rest-returns-clause-does t c =
