@@ -1,5 +1,5 @@
-// The cycle of statements and blocks. Each level of blocks has a frame of `statement`, `third`, `rest`, `block` and `braced` on the stack; a spot is lent to
-// those of them that take one, since a copy for a call stands in the caller's frame.
+// The cycle of statements and blocks. A spot is lent from function to function, since a copy for a call would stand in the caller's frame, once for each
+// level of blocks.
 ghost use Rattle.std.specs.Prelude.{false, ◌≡◌, ◌^◌, ◌≤◌, ◌<◌, length};
 ghost use Rattle.reading.specs.Grammar.{◌▸◌, many0};
 ghost use Rattle.reading.specs.Rules.{opt, multiline_trivia, directive, expression, block, block_item, braces, label, macro_definition, import', statement};

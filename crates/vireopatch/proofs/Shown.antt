@@ -27,7 +27,7 @@ use Rattle.share.specs.declared.SharesFound.{SharesFound}
 use Rattle.share.specs.declared.SharesError.{SharesError}
 use Rattle.share.specs.declared.TextWords.{TextWords}
 use Rattle.share.specs.declared.WordsError.{WordsError}
-use Rattle.vireopatch.specs.Seen.{code_of, given_of, Seen, seen, exported, base_numbered, value_in, seen_value, exported_value, SeenItems, seen_items, exported_items, SeenWalk, seen_walk, exported_walk, SeenShares, seen_shares, exported_shares, SeenWords, seen_words, exported_words}
+use Rattle.vireopatch.specs.Seen.{code_of, given_of, Seen, seen, exported, base_numbered, value_in, seen_value, exported_value, seen_items, exported_items, SeenWalk, seen_walk, exported_walk, SeenShares, seen_shares, exported_shares, SeenWords, seen_words, exported_words}
 use Rattle.vireopatch.specs.Told.{told}
 
 -- what is told of equal answers is equal, and so is what stands behind the pointers: the answer, or `none` of a refusal
