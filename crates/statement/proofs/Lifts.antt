@@ -113,18 +113,19 @@ module _ {s s' : List ℕ} {i n : ℕ} {c : Cursor} (e : s' ≡ s) (f : c ≡ cu
   pub skips_clear : {g : Parser} {k : Skip} → Skips g s' c.at.0 c.met k → Skips g s i false k
   skips_clear {g} {k} a = subst (λ (d : Cursor). Skips g s d.at.0 d.met k) f (subst (λ (s : List ℕ). Skips g s c.at.0 c.met k) e a)
 
+-- at one whose flag is clear already
+is_clear : (c : Cursor) → c.met ≡ false → c ≡ cursor c.at.0 c.count.0 false
+is_clear c = ap (cursor c.at.0 c.count.0)
+
 module _ {s : List ℕ} {c : Cursor} (e : c.met ≡ false) where
   pub reads_sober : {g : Parser} {left : ℕ} {t t' : List ℕ} {r : Read} → Reads g s c left t t' r → Reads g s (cursor c.at.0 c.count.0 false) left t t' r
-  reads_sober {g} {left} {t} {t'} {r} a = subst (λ (m : Bool). Reads g s (cursor c.at.0 c.count.0 m) left t t' r) e a
+  reads_sober = reads_clear refl (is_clear c e)
 
   pub flat_sober : {g : Parser} {t t' : List ℕ} {r : Read} → ((left : ℕ) → Reads g s c left t t' r) → (left : ℕ) → Reads g s (cursor c.at.0 c.count.0 false) left t t' r
-  flat_sober a left = reads_sober (a left)
-
-  pub leafs_sober : {g : Parser} {t t' : List ℕ} {r : Read} → Leafs g s c t t' r → Leafs g s (cursor c.at.0 c.count.0 false) t t' r
-  leafs_sober {g} {t} {t'} {r} a = subst (λ (m : Bool). Leafs g s (cursor c.at.0 c.count.0 m) t t' r) e a
+  flat_sober = flat_clear refl (is_clear c e)
 
 pub skips_sober : {g : Parser} {s : List ℕ} {i : ℕ} {m : Bool} {k : Skip} → m ≡ false → Skips g s i m k → Skips g s i false k
-skips_sober {g} {s} {i} {k = k} e x = subst (λ (m : Bool). Skips g s i m k) e x
+skips_sober {i = i} e = skips_clear refl (ap (cursor i 0) e)
 
 module _ {s s' : List ℕ} {c c' : Cursor} (e : s' ≡ s) (f : c' ≡ cursor c.at.0 c.count.0 false) where
   pub fit_told : {st : Counts} → Fit 0 s c st → Fit 0 s' c' st
