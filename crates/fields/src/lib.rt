@@ -6,6 +6,9 @@ ghost use Rattle.fields.specs.Fields.{ReadsOn};
 
 use std::marker::Model;
 
+#[cfg(test)]
+mod tests;
+
 // A value from here on has 19 digits.
 const MOST: usize = 1000000000000000000;
 
@@ -28,8 +31,15 @@ impl<'a> Model for Fields<'a> {
 }
 
 impl<'a> Fields<'a> {
+    // The fields of a line that nothing stands behind.
+    pub fn new(line: &'a [u8]) -> Fields<'a>
+        ensures { result ≡ line.now }
+    {
+        Fields::within(line, line.len())
+    }
+
     // The line is the first so many bytes of the input.
-    pub fn new(input: &'a [u8], line: usize) -> Fields<'a>
+    pub fn within(input: &'a [u8], line: usize) -> Fields<'a>
         ensures { result ≡ take line input.now }
     {
         Fields {

@@ -39,7 +39,7 @@ fn main(rt: HostRuntime) -> io::Result<()> {
     let mut input = Vec::new(rt.alloc());
     let mut text = [0u8; 262144];
     rt.reader().take(LONGEST).read_to_end(&mut input)?;
-    output::replay(&mut out, &input, |rest, line| case(rest, line, &mut text))?;
+    output::replay_within(&mut out, &input, |rest, line| case(rest, line, &mut text))?;
     out.flush()
 }
 
@@ -50,7 +50,7 @@ fn case(input: &[u8], line: usize, text: &mut [u8]) -> bool {
 
 // Lays the text between such bytes, and compares there.
 fn between(input: &[u8], line: usize, around: u8, text: &mut [u8]) -> bool {
-    let mut fields = Fields::new(input, line);
+    let mut fields = Fields::within(input, line);
     let Some(expected) = expected_of(&mut fields) else {
         return false;
     };

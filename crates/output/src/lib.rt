@@ -5,6 +5,9 @@ use reading::{HasNumber, Refusal};
 use std::io;
 use std::io::Write;
 
+#[cfg(test)]
+mod tests;
+
 // A refusal, as document 01 lists it.
 pub fn refusal(out: &mut impl Write, refusal: &impl Refusal) -> io::Result<()> {
     let number = refusal.number();
@@ -30,9 +33,22 @@ impl Tally {
     }
 }
 
-// Replays an input, of which each line is a case or, behind a `#`, the name of the cases before it. A case is lent as the input from its line on,
-// and how many bytes the line has. Printed are the place of each case that is not the same, and for each name how many are equal and how many differ.
-pub fn replay<F: FnMut(&[u8], usize) -> bool>(
+// Replays an input, of which each line is a case or, behind a `#`, the name of the cases before it. A case is lent as its line. Printed are the
+// place of each case that is not the same, and for each name how many are equal and how many differ.
+pub fn replay<F: FnMut(&[u8]) -> bool>(
+    out: &mut impl Write,
+    input: &[u8],
+    mut is_same: F,
+) -> io::Result<()>
+    requires { F.IsAlwaysCallable is_same }
+{
+    replay_within(out, input, |rest, line| {
+        is_same(rest.get(..line).unwrap_or(rest))
+    })
+}
+
+// The same, with a case lent as the input from its line on, and how many bytes the line has.
+pub fn replay_within<F: FnMut(&[u8], usize) -> bool>(
     out: &mut impl Write,
     input: &[u8],
     mut is_same: F,

@@ -42,7 +42,7 @@ fn main(rt: HostRuntime) -> io::Result<()> {
     let mut out = BufWriter::new(rt.alloc(), io::writer(&rt))?;
     let mut input = Vec::new(rt.alloc());
     rt.reader().take(LONGEST).read_to_end(&mut input)?;
-    output::replay(&mut out, &input, case)?;
+    output::replay_within(&mut out, &input, case)?;
     out.flush()
 }
 
@@ -50,7 +50,7 @@ fn main(rt: HostRuntime) -> io::Result<()> {
 fn case(input: &[u8], line: usize) -> bool {
     let mut texts = [[0u32; TEXT]; 1024];
     let mut bytes = [0u8; 256];
-    let mut fields = Fields::new(input, line);
+    let mut fields = Fields::within(input, line);
     if fields.number() == 0 {
         return list(&mut fields, &mut texts);
     }

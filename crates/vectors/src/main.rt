@@ -91,7 +91,7 @@ fn cases(
     let mut rest = input;
     for line in input.split_inclusive(|&b| b == b'\n') {
         if line != b"\n".as_slice() {
-            let mut fields = Fields::new(rest, line.len());
+            let mut fields = Fields::within(rest, line.len());
             let kind = fields.number() % KINDS;
             let same = case(&mut fields, &mut text);
             if !same {
