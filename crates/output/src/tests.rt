@@ -18,7 +18,7 @@ fn cases_as_lines(rt: HostRuntime) -> Result<(), Fail> {
 fn cases_within_the_input(rt: HostRuntime) -> Result<(), Fail> {
     let mut out = Vec::new(rt.alloc());
     replay_within(&mut out, CASES, |rest, line| {
-        line == 3 && rest.starts_with(b"ab")
+        line == 3 && rest.starts_with(b"ab") && rest.ends_with(b"cd")
     })?;
     assert_eq!(rt; out.as_slice(), PRINTED);
     Ok(())
